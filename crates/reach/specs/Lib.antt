@@ -1,0 +1,2 @@
+-- Reachability along the edges of a graph.
+pub mod Reach

@@ -1,0 +1,1 @@
+// Which nodes of a finite graph are reachable.

@@ -1,5 +1,6 @@
 -- What holds of every clear view, as statements; their proofs are in proofs/.
 use mathlib.Core.Path.{_≡_}
+use mathlib.Core.Logic.{_↔_}
 use mathlib.Core.List.{List, [], _∷_, _++_}
 use Rattle.lens.specs.Forms.{Text, Matches}
 use Rattle.lens.specs.Views.{View, sources, looks, Shows, Makes, Puts}
@@ -27,3 +28,25 @@ pub record Lawful (l : View) : Type 0 where
 
 abbrev pub Clear-lawful : Type 0
 Clear-lawful = (l : View) → Clear l → Lawful l
+
+-- `Edits l s us r`: the looks us, put back one after the other, take the source s to r.
+pub data Edits : View → Text → List Text → Text → Type 0 where
+  e-none : {l : View} {s : Text} → Edits l s [] s
+  e-more : {l : View} {u s x r : Text} {us : List Text} → Puts l u s x → Edits l x us r → Edits l s (u ∷ us) r
+
+-- Each text of a list is a look.
+abbrev pub All-looks : View → List Text → Type 0
+All-looks l [] = Unit {0}
+All-looks l (u ∷ us) = Matches (looks l) u × All-looks l us
+
+-- The laws last over a sequence of edits: any looks can be put back one after the other, with one result,
+-- a source again; it shows the look that came last; and putting back, at any point of the sequence, what
+-- one sees there leaves the result as it is.
+pub record Lasting (l : View) : Type 0 where
+  pub edits : (s : Text) (us : List Text) → Matches (sources l) s → All-looks l us → (r : Text) × Edits l s us r × Matches (sources l) r
+  pub edits-one : (s q r : Text) (us : List Text) → Edits l s us q → Edits l s us r → q ≡ r
+  pub last-shows : (s u r : Text) (us : List Text) → Edits l s (us ++ (u ∷ [])) r → Shows l r u
+  pub shown-stays : (s x u r : Text) (us vs : List Text) → Edits l s us x → Shows l x u → Edits l s (us ++ vs) r ↔ Edits l s (us ++ (u ∷ vs)) r
+
+abbrev pub Clear-lasting : Type 0
+Clear-lasting = (l : View) → Clear l → Lasting l

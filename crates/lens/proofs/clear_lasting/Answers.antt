@@ -1,0 +1,5 @@
+use Rattle.lens.proofs.Edits.{clear-lasting}
+use Rattle.lens.proofs.clear_lasting.Needs as need
+
+pub returns : need.returns
+returns c = clear-lasting

@@ -1,0 +1,5 @@
+use Rattle.lens.proofs.Lawful.{clear-lawful}
+use Rattle.lens.proofs.clear_lawful.Needs as need
+
+pub returns : need.returns
+returns c = clear-lawful

@@ -1,0 +1,5 @@
+use Rattle.lens.proofs.Works.{clear-works}
+use Rattle.lens.proofs.clear_works.Needs as need
+
+pub returns : need.returns
+returns c = clear-works

@@ -5,3 +5,4 @@ pub mod Lawful
 pub mod Sides
 pub mod Works
 pub mod Edits
+pub mod Cases

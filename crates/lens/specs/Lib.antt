@@ -3,3 +3,4 @@ pub mod Forms
 pub mod Views
 pub mod Clear
 pub mod Laws
+pub mod Cases

@@ -5,4 +5,6 @@ pub mod Lawful
 pub mod Sides
 pub mod Works
 pub mod Edits
+pub mod Cuts
 pub mod Cases
+pub mod Needed

@@ -4,3 +4,4 @@ pub mod Views
 pub mod Clear
 pub mod Laws
 pub mod Cases
+pub mod Needed

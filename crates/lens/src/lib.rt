@@ -2,6 +2,7 @@
 // The functions here do nothing: each one's contract is a theorem, so that the check asks for its proof.
 ghost use Rattle.lens.specs.Laws.{Clear-works, Clear-lawful, Clear-lasting};
 ghost use Rattle.lens.specs.Cases.{Letter-hidden, Lender-stays};
+ghost use Rattle.lens.specs.Needed.{Needed};
 
 // A clear view shows, makes and puts back in one way.
 pub fn clear_works() -> u8
@@ -34,6 +35,13 @@ pub fn letter_hidden() -> u8
 // In a line of a catalogue whose remark is changed, the hidden lender stays.
 pub fn lender_stays() -> u8
     ensures { λ _. ⌜ Lender-stays ⌝ }
+{
+    0
+}
+
+// With one of three conditions of a clear view weakened, a view passes that does not work.
+pub fn conditions_needed() -> u8
+    ensures { λ _. ⌜ Needed ⌝ }
 {
     0
 }

@@ -23,42 +23,46 @@ careful (swap k l) = ap₂ (λ K L. K × L × Cut-once (sources k) (sources l) �
 careful (either k l) = ap₂ (λ K L. K × L × Apart (sources k) (sources l) × Apart (looks k) (looks l)) (careful k) (careful l)
 careful (each l) = ap (λ L. L × Parts-once (sources l) × Parts-once (looks l)) (careful l)
 
--- The letter a, and a run of it.
-a : Form
+-- The letters a and b, and a run of a.
+abbrev a : Form
 a = one 97 97
 
-is-a : Matches (one 97 97) (codes "a")
+abbrev b : Form
+b = one 98 98
+
+is-a : Matches a (codes "a")
 is-a = is-one (lit≤ tt) (lit≤ tt)
 
-is-run : Matches (many (one 97 97)) (codes "a")
+is-b : Matches b (codes "b")
+is-b = is-one (lit≤ tt) (lit≤ tt)
+
+is-run : Matches (many a) (codes "a")
 is-run = is-more (codes "a") [] is-a is-none
 
 -- The hidden a with the default b: what is made is no source.
-not-b : Matches (one 97 97) (codes "b") → ⊥
+not-b : Matches a (codes "b") → ⊥
 not-b (is-one p q) = omega arith
 
 any-default : Too-weak Any-default
-any-default = (hide (one 97 97) [] (codes "b"), tt, λ works.
+any-default = (hide a [] (codes "b"), tt, λ works.
     let (s, m, k) = works .makes [] is-empty in
-    not-b (subst (Matches (one 97 97)) (works .makes-one [] s (codes "b") m m-hide) k))
+    not-b (subst (Matches a) (works .makes-one [] s (codes "b") m m-hide) k))
 
 -- A run of a, swapped with a b that has a run of a behind it: of ba both ab and ba are made.
 source-order : Too-weak Source-order
-source-order = (swap (copy (many (one 97 97))) (copy (seq (one 98 98) (many (one 97 97)))), (tt, tt, cut, cut), λ works.
+source-order = (swap (copy (many a)) (copy (seq b (many a))), (tt, tt, cut, cut), λ works.
     let e = works .makes-one (codes "ba") (codes "ab") (codes "ba")
         (m-swap (codes "a") (codes "b") (codes "a") (codes "b") (m-copy is-run) (m-copy (is-seq (codes "b") [] is-b is-none)))
         (m-swap [] (codes "ba") [] (codes "ba") (m-copy is-none) (m-copy (is-seq (codes "b") (codes "a") is-b is-run))) in
     let z : _≡_ {A = ℕ} 97 98 = cc in
     omega arith)
   where
-    is-b : Matches (one 98 98) (codes "b")
-    is-b = is-one (lit≤ tt) (lit≤ tt)
-    cut : Cut-once (many (one 97 97)) (seq (one 98 98) (many (one 97 97)))
+    cut : Cut-once (many a) (seq b (many a))
     cut = run-cut (ones-apart (inl (omega arith)))
 
 -- Each a hidden: nothing put back into a is nothing, and a.
 source-parts : Too-weak Source-parts
-source-parts = (each (hide (one 97 97) [] (codes "a")), (is-a, one-parts, one-parts), λ works.
+source-parts = (each (hide a [] (codes "a")), (is-a, one-parts, one-parts), λ works.
     cons-not-nil (works .puts-one [] (codes "a") (codes "a") []
         (p-both [] [] (codes "a") [] (codes "a") [] (p-hide is-a) (p-none is-none))
         (p-none is-run)))

@@ -1,11 +1,11 @@
 -- Forms whose texts end where they must, so that they are cut in one way from what follows.
 -- Not here: how it is decided of any two forms.
-use mathlib.Core.Path.{_≡_, refl, ap₂}
+use mathlib.Core.Path.{refl, ap₂}
 use mathlib.Core.Logic.{_⊎_, inl, inr}
-use mathlib.Core.List.{List, [], _∷_, _++_, append-assoc, append-nil}
-use Prim.Native.Nat.{ℕ, _≤_, _<_}
+use mathlib.Core.List.{[], _++_, append-assoc, append-nil}
+use Prim.Native.Nat.{ℕ, _<_}
 use native.Mathlib.Omega.{arith}
-use Rattle.lens.specs.Forms.{Text, Form, empty, one, seq, many, Matches, is-empty, is-one, is-seq, is-none, is-more}
+use Rattle.lens.specs.Forms.{Form, empty, one, seq, many, is-empty, is-one, is-seq, is-none, is-more}
 use Rattle.lens.specs.Clear.{Cut-once, Apart, Parts-once}
 use Rattle.lens.proofs.Inversions.{never}
 

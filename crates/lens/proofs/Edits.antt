@@ -1,12 +1,10 @@
 -- Sequences of edits: what holds of one put holds of many, one after the other.
 -- Not here: the one put (Lawful, Works).
-use mathlib.Core.Path.{_≡_, refl, subst, sym}
-use mathlib.Core.Logic.{_↔_}
+use mathlib.Core.Path.{_≡_, refl, subst}
 use mathlib.Core.List.{List, [], _∷_, _++_}
 use Rattle.lens.specs.Forms.{Text, Matches}
-use Rattle.lens.specs.Views.{View, sources, Shows, Puts}
-use Rattle.lens.specs.Clear.{Clear}
-use Rattle.lens.specs.Laws.{Works, Lawful, Edits, e-none, e-more, All-looks, Lasting, Clear-lasting}
+use Rattle.lens.specs.Views.{View, sources, Shows}
+use Rattle.lens.specs.Laws.{Works, Lawful, Edits, e-none, e-more, All-looks, Clear-lasting}
 use Rattle.lens.proofs.Lawful.{clear-lawful}
 use Rattle.lens.proofs.Works.{clear-works}
 
@@ -54,4 +52,6 @@ clear-lasting l c =
       last-shows = λ s u r us a. edit-shows l w h (edits-cut us a .2);
       shown-stays = λ s x u r us vs a n. (
         λ b. edits-join a (e-more (h .shown-puts x u n) (edits-rest l w h a b)),
-        λ b. edits-join a (shown-first l w h n (edits-rest l w h a b))) }
+        λ b. edits-join a (shown-first l w h n (edits-rest l w h a b)),
+      );
+    }

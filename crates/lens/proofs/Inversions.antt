@@ -1,7 +1,7 @@
 -- What a text of a form is made of. Each inversion hands the parts on at a variable text, so that none has to be carried along an equation.
 -- Not here: views (Lawful, Works).
 use mathlib.Core.Path.{_≡_, subst, sym}
-use mathlib.Core.List.{List, [], _∷_, _++_}
+use mathlib.Core.List.{[], _∷_, _++_}
 use Rattle.lens.specs.Forms.{Text, Form, empty, one, seq, or, many, Matches, is-empty, is-one, is-seq, is-left, is-right, is-none, is-more, exactly}
 use Rattle.lens.specs.Clear.{Apart, Parts-once}
 use Rattle.lens.proofs.Texts.{append-nil-left}

@@ -1,10 +1,9 @@
 -- The laws of a lens. They ask little of a view: only that the default of hide is a source (a part of Clear).
 -- Not here: that each of show, make and put gives one text (Works).
-use mathlib.Core.List.{List, [], _∷_, _++_}
-use Rattle.lens.specs.Forms.{Text, Matches, is-none}
-use Rattle.lens.specs.Views.{View, copy, hide, then, swap, either, each, sources, looks, Shows, s-copy, s-hide, s-then, s-swap, s-left, s-right, s-none, s-more, Makes, m-copy, m-hide, m-then, m-swap, m-left, m-right, m-none, m-more, Puts, p-copy, p-hide, p-then, p-swap, p-left, p-right, p-to-left, p-to-right, p-none, p-both, p-new}
+use Rattle.lens.specs.Forms.{Text, is-none}
+use Rattle.lens.specs.Views.{View, Shows, s-copy, s-hide, s-then, s-swap, s-left, s-right, s-none, s-more, Makes, m-copy, m-hide, m-then, m-swap, m-left, m-right, m-none, m-more, Puts, p-copy, p-hide, p-then, p-swap, p-left, p-right, p-to-left, p-to-right, p-none, p-both, p-new}
 use Rattle.lens.specs.Clear.{Clear}
-use Rattle.lens.specs.Laws.{Lawful, Clear-lawful}
+use Rattle.lens.specs.Laws.{Clear-lawful}
 
 -- A source made from a look shows that look.
 pub make-shows : {l : View} {u s : Text} → Clear l → Makes l u s → Shows l s u
@@ -44,6 +43,7 @@ shown-puts (s-more s t u v a b) = p-both u v s t s t (shown-puts a) (shown-puts 
 
 pub clear-lawful : Clear-lawful
 clear-lawful l c = record {
-    put-shows = λ u s x a. put-shows c a;
-    shown-puts = λ s u a. shown-puts a;
-    make-shows = λ u s a. make-shows c a }
+  put-shows = λ u s x a. put-shows c a;
+  shown-puts = λ s u a. shown-puts a;
+  make-shows = λ u s a. make-shows c a;
+}

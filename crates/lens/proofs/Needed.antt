@@ -1,14 +1,14 @@
 -- Views that pass with a weaker condition and do not work.
 -- Not here: the weaker conditions (specs/Needed).
 use mathlib.Core.Path.{_≡_, refl, sym, ap, ap₂, subst, transport}
-use mathlib.Core.Logic.{inl, inr}
-use mathlib.Core.List.{List, [], _∷_, _++_}
+use mathlib.Core.Logic.{inl}
+use mathlib.Core.List.{[]}
 use Prim.Native.Nat.{ℕ}
 use native.Mathlib.Omega.{arith}
 use lib.Chars.{codes}
 use lib.Dec.{lit≤}
-use Rattle.lens.specs.Forms.{Text, Form, one, seq, many, Matches, is-empty, is-one, is-seq, is-none, is-more}
-use Rattle.lens.specs.Views.{View, copy, hide, then, swap, either, each, sources, looks, Makes, m-copy, m-hide, m-swap, Puts, p-hide, p-none, p-both}
+use Rattle.lens.specs.Forms.{Form, one, seq, many, Matches, is-empty, is-one, is-seq, is-none, is-more}
+use Rattle.lens.specs.Views.{View, copy, hide, then, swap, either, each, sources, looks, m-copy, m-hide, m-swap, p-hide, p-none, p-both}
 use Rattle.lens.specs.Clear.{Cut-once, Apart, Parts-once, Clear}
 use Rattle.lens.specs.Needed.{Careful, Any-default, Source-order, Source-parts, Too-weak, Needed}
 use Rattle.lens.proofs.Texts.{cons-not-nil}
@@ -44,32 +44,45 @@ not-b : Matches a (codes "b") → ⊥
 not-b (is-one p q) = omega arith
 
 any-default : Too-weak Any-default
-any-default = (hide a [] (codes "b"), tt, λ works.
-    let (s, m, k) = works .makes [] is-empty in
-    not-b (subst (Matches a) (works .makes-one [] s (codes "b") m m-hide) k))
+any-default = (
+  hide a [] (codes "b"),
+  tt,
+  λ works.
+      let (s, m, k) = works .makes [] is-empty in
+      not-b (subst (Matches a) (works .makes-one [] s (codes "b") m m-hide) k),
+)
 
 -- A run of a, swapped with a b that has a run of a behind it: of ba both ab and ba are made.
 source-order : Too-weak Source-order
-source-order = (swap (copy (many a)) (copy (seq b (many a))), (tt, tt, cut, cut), λ works.
-    let e = works .makes-one (codes "ba") (codes "ab") (codes "ba")
-        (m-swap (codes "a") (codes "b") (codes "a") (codes "b") (m-copy is-run) (m-copy (is-seq (codes "b") [] is-b is-none)))
-        (m-swap [] (codes "ba") [] (codes "ba") (m-copy is-none) (m-copy (is-seq (codes "b") (codes "a") is-b is-run))) in
-    let z : _≡_ {A = ℕ} 97 98 = cc in
-    omega arith)
+source-order = (
+  swap (copy (many a)) (copy (seq b (many a))),
+  (tt, tt, cut, cut),
+  λ works.
+      let e = works .makes-one (codes "ba") (codes "ab") (codes "ba")
+      (m-swap (codes "a") (codes "b") (codes "a") (codes "b") (m-copy is-run) (m-copy (is-seq (codes "b") [] is-b is-none)))
+      (m-swap [] (codes "ba") [] (codes "ba") (m-copy is-none) (m-copy (is-seq (codes "b") (codes "a") is-b is-run))) in
+      let z : _≡_ {A = ℕ} 97 98 = cc in
+      omega arith,
+)
   where
     cut : Cut-once (many a) (seq b (many a))
     cut = run-cut (ones-apart (inl (omega arith)))
 
 -- Each a hidden: nothing put back into a is nothing, and a.
 source-parts : Too-weak Source-parts
-source-parts = (each (hide a [] (codes "a")), (is-a, one-parts, one-parts), λ works.
-    cons-not-nil (works .puts-one [] (codes "a") (codes "a") []
-        (p-both [] [] (codes "a") [] (codes "a") [] (p-hide is-a) (p-none is-none))
-        (p-none is-run)))
+source-parts = (
+  each (hide a [] (codes "a")),
+  (is-a, one-parts, one-parts),
+  λ works.
+      cons-not-nil (works .puts-one [] (codes "a") (codes "a") []
+      (p-both [] [] (codes "a") [] (codes "a") [] (p-hide is-a) (p-none is-none))
+      (p-none is-run)),
+)
 
 pub needed : Needed
 needed = record {
-    careful = λ l. (transport (careful l), transport (sym (careful l)));
-    any-default = any-default;
-    source-order = source-order;
-    source-parts = source-parts }
+  careful = λ l. (transport (careful l), transport (sym (careful l)));
+  any-default = any-default;
+  source-order = source-order;
+  source-parts = source-parts;
+}

@@ -1,6 +1,5 @@
 -- Of which form a text is that is shown, made or put back: the sources' or the looks'.
 -- Not here: that there is such a text for each source or look (Works).
-use mathlib.Core.List.{List, [], _∷_, _++_}
 use Rattle.lens.specs.Forms.{Text, Matches, is-seq, is-left, is-right, is-none, is-more}
 use Rattle.lens.specs.Views.{View, sources, looks, Shows, s-copy, s-hide, s-then, s-swap, s-left, s-right, s-none, s-more, Makes, Puts, p-copy, p-hide, p-then, p-swap, p-left, p-right, p-to-left, p-to-right, p-none, p-both, p-new}
 use Rattle.lens.specs.Clear.{Clear}

@@ -1,11 +1,11 @@
 -- A clear view works: show, make and put each give one text, of the form that it should be.
 -- Not here: the laws (Lawful), and of which form the texts are that are shown, made and put (Sides).
 use mathlib.Core.Path.{_≡_, refl, sym, ap₂}
-use mathlib.Core.List.{List, [], _∷_, _++_}
+use mathlib.Core.List.{[], _++_}
 use Rattle.lens.specs.Forms.{Text, Matches, is-none, many}
 use Rattle.lens.specs.Views.{View, copy, hide, then, swap, either, each, sources, looks, Shows, s-copy, s-hide, s-then, s-swap, s-left, s-right, s-none, s-more, Makes, m-copy, m-hide, m-then, m-swap, m-left, m-right, m-none, m-more, Puts, p-copy, p-hide, p-then, p-swap, p-left, p-right, p-to-left, p-to-right, p-none, p-both, p-new}
 use Rattle.lens.specs.Clear.{Clear}
-use Rattle.lens.specs.Laws.{Works, Clear-works}
+use Rattle.lens.specs.Laws.{Clear-works}
 use Rattle.lens.proofs.Inversions.{on-seq, on-or, many-fold, on-exactly, never, not-empty}
 use Rattle.lens.proofs.Lawful.{make-shows, put-shows}
 use Rattle.lens.proofs.Sides.{shows-source, shows-look, makes-look, puts-look, puts-source}
@@ -51,13 +51,13 @@ put (swap k l) {s = s} m n =
     let (x, p) = put k a a′ in let (y, q) = put l b b′ in (x ++ y, p-swap u v s t x y p q)))
 put (either k l) {u = u} {s = s} m n =
     on-or (λ u. Put (either k l) u s) m
-        (λ a. on-or (Put (either k l) u) n (λ b. let (x, p) = put k a b in (x, p-left p)) (λ b. let (x, p) = made k a in (x, p-to-left b p)))
-        (λ a. on-or (Put (either k l) u) n (λ b. let (x, p) = made l a in (x, p-to-right b p)) (λ b. let (x, p) = put l a b in (x, p-right p)))
+    (λ a. on-or (Put (either k l) u) n (λ b. let (x, p) = put k a b in (x, p-left p)) (λ b. let (x, p) = made k a in (x, p-to-left b p)))
+    (λ a. on-or (Put (either k l) u) n (λ b. let (x, p) = made l a in (x, p-to-right b p)) (λ b. let (x, p) = put l a b in (x, p-right p)))
 put (each l) {s = s} m n = many-fold (λ u. (s : Text) → Matches (many (sources l)) s → Put (each l) u s) m
     (λ s n. ([], p-none n))
     (λ u v a b rest s n. many-fold (Put (each l) (u ++ v)) n
-        (let (x, p) = made l a in let (y, q) = rest [] is-none in (x ++ y, p-new u v x y p q))
-        (λ s t a′ b′ _. let (x, p) = put l a a′ in let (y, q) = rest t b′ in (x ++ y, p-both u v s t x y p q))) s n
+    (let (x, p) = made l a in let (y, q) = rest [] is-none in (x ++ y, p-new u v x y p q))
+    (λ s t a′ b′ _. let (x, p) = put l a a′ in let (y, q) = rest t b′ in (x ++ y, p-both u v s t x y p q))) s n
 
 -- A source looks like one text.
 shows-one : {l : View} {s t u v : Text} → Clear l → Shows l s u → Shows l t v → s ≡ t → u ≡ v
@@ -146,9 +146,10 @@ puts-one c (p-new u v x y a b) (p-new u′ v′ x′ y′ a′ b′) e f =
 
 pub clear-works : Clear-works
 clear-works l c = record {
-    shows = λ s m. let (u, a) = shown l m in (u, a, shows-look a);
-    shows-one = λ s u v a b. shows-one c a b refl;
-    makes = λ u m. let (s, a) = made l m in (s, a, shows-source (make-shows c a));
-    makes-one = λ u s t a b. makes-one c a b refl;
-    puts = λ u s m n. let (x, a) = put l m n in (x, a, shows-source (put-shows c a));
-    puts-one = λ u s x y a b. puts-one c a b refl refl }
+  shows = λ s m. let (u, a) = shown l m in (u, a, shows-look a);
+  shows-one = λ s u v a b. shows-one c a b refl;
+  makes = λ u m. let (s, a) = made l m in (s, a, shows-source (make-shows c a));
+  makes-one = λ u s t a b. makes-one c a b refl;
+  puts = λ u s m n. let (x, a) = put l m n in (x, a, shows-source (put-shows c a));
+  puts-one = λ u s x y a b. puts-one c a b refl refl;
+}

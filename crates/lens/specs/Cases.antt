@@ -1,6 +1,6 @@
 -- Two worked views: both are clear, and a text is shown, made and put back by each.
 -- Not here: the derivations (proofs/Cases).
-use mathlib.Core.List.{List, []}
+use mathlib.Core.List.{[]}
 use lib.Chars.{codes}
 use Rattle.lens.specs.Forms.{Form, one, seq, many}
 use Rattle.lens.specs.Views.{View, copy, hide, then, Shows, Makes, Puts}

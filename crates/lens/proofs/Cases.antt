@@ -2,15 +2,16 @@
 -- Not here: the views and the texts (specs/Cases).
 use mathlib.Core.Logic.{inl, inr}
 use mathlib.Core.Bool.{Bool, true, false, _&&_}
-use mathlib.Core.List.{[], _∷_}
+use mathlib.Core.List.{[], _∷_, _++_}
 use Prim.Native.Nat.{ℕ}
 use native.Mathlib.Omega.{arith}
 use lib.Chars.{codes}
 use lib.Dec.{T, leb, lit≤}
 use Rattle.lens.specs.Forms.{Text, Form, one, seq, many, Matches, is-one, is-seq, is-none, is-more}
-use Rattle.lens.specs.Views.{s-copy, s-hide, s-then, m-copy, m-hide, m-then, p-copy, p-hide, p-then}
-use Rattle.lens.specs.Clear.{Cut-once}
-use Rattle.lens.specs.Cases.{digits, mark, letters, remark, Letter-hidden, Lender-stays}
+use Rattle.lens.specs.Views.{Shows, Makes, Puts, s-copy, s-hide, s-then, m-copy, m-hide, m-then, p-copy, p-hide, p-then}
+use Rattle.lens.specs.Clear.{Cut-once, Clear}
+use Rattle.lens.specs.Cases.{digits, mark, letters, remark, line, entry, page, Letter-hidden, Lender-stays}
+use Rattle.lens.proofs.Works.{clear-works}
 use Rattle.lens.proofs.Cuts.{empty-cut, one-cut, seq-cut, run-cut, ones-apart, cut-empty, cut-end}
 
 -- A run of bytes from a to b.
@@ -47,35 +48,53 @@ letter-hidden = record {
     is-a : Matches (one 97 122) (codes "a")
     is-a = is-one (lit≤ tt) (lit≤ tt)
 
--- A line of a catalogue: the remark is changed, and the lender stays.
-pub lender-stays : Lender-stays
-lender-stays = record {
-  clear = (tt, (tt, (is-seq [] (codes ";") is-none is-mark, tt, seq-cut (run-cut (ones-apart (inr (omega arith)))) one-cut, empty-cut), one-cut, one-cut), digits-cut, digits-cut);
-  shown = s-then (codes "7") (codes ";Ann;a;b") (codes "7") (codes ";a;b") (s-copy is-7)
-      (s-then (codes ";") (codes "Ann;a;b") (codes ";") (codes "a;b") (s-copy is-mark)
-      (s-then (codes "Ann;") (codes "a;b") [] (codes "a;b") (s-hide is-Ann) (s-copy is-old)));
-  made = m-then (codes "7") (codes ";c;d") (codes "7") (codes ";;c;d") (m-copy is-7)
-      (m-then (codes ";") (codes "c;d") (codes ";") (codes ";c;d") (m-copy is-mark)
-      (m-then [] (codes "c;d") (codes ";") (codes "c;d") m-hide (m-copy is-new)));
-  put-back = p-then (codes "7") (codes ";c;d") (codes "7") (codes ";Ann;a;b") (codes "7") (codes ";Ann;c;d") (p-copy is-7 is-7)
-      (p-then (codes ";") (codes "c;d") (codes ";") (codes "Ann;a;b") (codes ";") (codes "Ann;c;d") (p-copy is-mark is-mark)
-      (p-then [] (codes "c;d") (codes "Ann;") (codes "a;b") (codes "Ann;") (codes "c;d") (p-hide is-Ann) (p-copy is-new is-old)));
-}
+-- A line of a catalogue: what is changed on the page leaves the lender as it is.
+abbrev semicolon : Text
+semicolon = codes ";"
+
+is-mark : Matches mark semicolon
+is-mark = is-one (lit≤ tt) (lit≤ tt)
+
+is-lender : {a : Text} → Matches letters a → Matches (seq letters mark) (a ++ semicolon)
+is-lender {a} i = is-seq a semicolon i is-mark
+
+line-clear : Clear line
+line-clear = (tt, (tt, (is-lender is-none, tt, lender-cut, empty-cut), one-cut, one-cut), digits-cut, digits-cut)
   where
+    lender-cut : Cut-once (seq letters mark) remark
+    lender-cut = seq-cut (run-cut (ones-apart (inr (omega arith)))) one-cut
+
     digits-cut : {f : Form} → Cut-once digits (seq mark f)
     digits-cut = run-cut (ones-apart (inl (omega arith)))
 
-    is-7 : Matches digits (codes "7")
-    is-7 = run (codes "7") tt
+line-shown : {n a r : Text} → Matches digits n → Matches letters a → Matches remark r → Shows line (entry n a r) (page n r)
+line-shown {n} {a} {r} i j k =
+    s-then n _ n _ (s-copy i)
+    (s-then semicolon _ semicolon _ (s-copy is-mark)
+    (s-then (a ++ semicolon) r [] r (s-hide (is-lender j)) (s-copy k)))
 
-    is-mark : Matches mark (codes ";")
-    is-mark = is-one (lit≤ tt) (lit≤ tt)
+line-made : {n r : Text} → Matches digits n → Matches remark r → Makes line (page n r) (entry n [] r)
+line-made {n} {r} i k =
+    m-then n _ n _ (m-copy i)
+    (m-then semicolon _ semicolon _ (m-copy is-mark)
+    (m-then [] r semicolon r m-hide (m-copy k)))
 
-    is-Ann : Matches (seq letters mark) (codes "Ann;")
-    is-Ann = is-seq (codes "Ann") (codes ";") (run (codes "Ann") tt) is-mark
+line-put : {m n a q r : Text} → Matches digits m → Matches digits n → Matches letters a → Matches remark q → Matches remark r → Puts line (page m q) (entry n a r) (entry m a q)
+line-put {m} {n} {a} {q} {r} h i j p k =
+    p-then m _ n _ m _ (p-copy h i)
+    (p-then semicolon _ semicolon _ semicolon _ (p-copy is-mark is-mark)
+    (p-then [] q (a ++ semicolon) r (a ++ semicolon) q (p-hide (is-lender j)) (p-copy p k)))
 
-    is-old : Matches remark (codes "a;b")
-    is-old = run (codes "a;b") tt
+changed : Puts line (codes "7;c;d") (codes "7;Ann;a;b") (codes "7;Ann;c;d")
+changed = line-put (run (codes "7") tt) (run (codes "7") tt) (run (codes "Ann") tt) (run (codes "c;d") tt) (run (codes "a;b") tt)
 
-    is-new : Matches remark (codes "c;d")
-    is-new = run (codes "c;d") tt
+pub lender-stays : Lender-stays
+lender-stays = record {
+  clear = line-clear;
+  shown = λ n a r i j k. line-shown i j k;
+  made = λ n r i k. line-made i k;
+  put-back = λ m n a q r h i j p k. line-put h i j p k;
+  before = line-shown (run (codes "7") tt) (run (codes "Ann") tt) (run (codes "a;b") tt);
+  after = changed;
+  only-after = λ x a. clear-works line line-clear .puts-one _ _ _ _ a changed;
+}

@@ -17,10 +17,15 @@ Shown l s = (u : Text) × Shows l s u
 shown : (l : View) {s : Text} → Matches (sources l) s → Shown l s
 shown (copy f) m = (_, s-copy m)
 shown (hide f v d) m = (v, s-hide m)
-shown (then k l) m = on-seq (Shown (then k l)) m (λ s t a b. let (u, p) = shown k a in let (v, q) = shown l b in (u ++ v, s-then s t u v p q))
-shown (swap k l) m = on-seq (Shown (swap k l)) m (λ s t a b. let (u, p) = shown k a in let (v, q) = shown l b in (v ++ u, s-swap s t u v p q))
-shown (either k l) m = on-or (Shown (either k l)) m (λ a. let (u, p) = shown k a in (u, s-left p)) (λ b. let (u, p) = shown l b in (u, s-right p))
-shown (each l) m = many-fold (Shown (each l)) m ([], s-none) (λ s t a b rest. let (u, p) = shown l a in let (v, q) = rest in (u ++ v, s-more s t u v p q))
+shown (then k l) m = on-seq (Shown (then k l)) m (λ s t a b.
+    let (u, p) = shown k a in let (v, q) = shown l b in (u ++ v, s-then s t u v p q))
+shown (swap k l) m = on-seq (Shown (swap k l)) m (λ s t a b.
+    let (u, p) = shown k a in let (v, q) = shown l b in (v ++ u, s-swap s t u v p q))
+shown (either k l) m = on-or (Shown (either k l)) m
+    (λ a. let (u, p) = shown k a in (u, s-left p))
+    (λ b. let (u, p) = shown l b in (u, s-right p))
+shown (each l) m = many-fold (Shown (each l)) m ([], s-none) (λ s t a b rest.
+    let (u, p) = shown l a in let (v, q) = rest in (u ++ v, s-more s t u v p q))
 
 -- Of every look a source can be made.
 abbrev Made : View → Text → Type 0
@@ -29,10 +34,15 @@ Made l u = (s : Text) × Makes l u s
 made : (l : View) {u : Text} → Matches (looks l) u → Made l u
 made (copy f) m = (_, m-copy m)
 made (hide f v d) m = on-exactly v (Made (hide f v d)) m (d, m-hide)
-made (then k l) m = on-seq (Made (then k l)) m (λ u v a b. let (s, p) = made k a in let (t, q) = made l b in (s ++ t, m-then u v s t p q))
-made (swap k l) m = on-seq (Made (swap k l)) m (λ v u b a. let (s, p) = made k a in let (t, q) = made l b in (s ++ t, m-swap u v s t p q))
-made (either k l) m = on-or (Made (either k l)) m (λ a. let (s, p) = made k a in (s, m-left p)) (λ b. let (s, p) = made l b in (s, m-right p))
-made (each l) m = many-fold (Made (each l)) m ([], m-none) (λ u v a b rest. let (s, p) = made l a in let (t, q) = rest in (s ++ t, m-more u v s t p q))
+made (then k l) m = on-seq (Made (then k l)) m (λ u v a b.
+    let (s, p) = made k a in let (t, q) = made l b in (s ++ t, m-then u v s t p q))
+made (swap k l) m = on-seq (Made (swap k l)) m (λ v u b a.
+    let (s, p) = made k a in let (t, q) = made l b in (s ++ t, m-swap u v s t p q))
+made (either k l) m = on-or (Made (either k l)) m
+    (λ a. let (s, p) = made k a in (s, m-left p))
+    (λ b. let (s, p) = made l b in (s, m-right p))
+made (each l) m = many-fold (Made (each l)) m ([], m-none) (λ u v a b rest.
+    let (s, p) = made l a in let (t, q) = rest in (s ++ t, m-more u v s t p q))
 
 -- Every look can be put back into every source.
 abbrev Put : View → Text → Text → Type 0

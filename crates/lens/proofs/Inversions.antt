@@ -1,12 +1,13 @@
--- What a text of a form is made of. Each inversion hands the parts on at a variable text, so that none has to be carried along an equation.
+-- What a text of a form is made of. Each inversion hands the parts on at a variable text, so that nothing
+-- has to be carried along an equation.
 -- Not here: views (Lawful, Works).
 use mathlib.Core.Path.{_≡_, subst, sym}
 use mathlib.Core.List.{[], _∷_, _++_}
+use Prim.Native.Nat.{ℕ, _≤_}
+use native.Mathlib.Nat.{le-refl, le-antisymm}
 use Rattle.lens.specs.Forms.{Text, Form, empty, one, seq, or, many, Matches, is-empty, is-one, is-seq, is-left, is-right, is-none, is-more, exactly}
 use Rattle.lens.specs.Clear.{Apart, Parts-once}
 use Rattle.lens.proofs.Texts.{append-nil-left}
-use Prim.Native.Nat.{ℕ, _≤_}
-use native.Mathlib.Nat.{le-refl, le-antisymm}
 
 -- To show P of a text of a form, show it of what such a text is made of.
 module _ (P : Text → Type 0) where
@@ -35,7 +36,11 @@ exactly-matches (x ∷ v) = is-seq (x ∷ []) v (is-one (le-refl x) (le-refl x))
 
 pub on-exactly : (v : Text) (P : Text → Type 0) {s : Text} → Matches (exactly v) s → P v → P s
 on-exactly [] P m h = on-empty P m h
-on-exactly (x ∷ v) P m h = on-seq P m (λ u w a b. on-exactly v (λ w. P (u ++ w)) b (on-one (λ u. P (u ++ v)) a (λ y p q. subst (λ y. P (y ∷ v)) (le-antisymm p q) h)))
+on-exactly (x ∷ v) P m h =
+    on-seq P m (λ u w a b.
+    on-exactly v (λ w. P (u ++ w)) b
+    (on-one (λ u. P (u ++ v)) a (λ y p q.
+    subst (λ y. P (y ∷ v)) (le-antisymm p q) h)))
 
 -- Two forms apart have no text in common.
 pub never : {A : Type 0} {f g : Form} {u v : Text} → Apart f g → Matches f u → Matches g v → u ≡ v → A

@@ -8,7 +8,7 @@ use native.Mathlib.Omega.{arith}
 use lib.Chars.{codes}
 use lib.Dec.{lit≤}
 use Rattle.lens.specs.Forms.{Form, one, seq, many, Matches, is-empty, is-one, is-seq, is-none, is-more}
-use Rattle.lens.specs.Views.{View, copy, hide, then, swap, either, each, sources, looks, m-copy, m-hide, m-swap, p-hide, p-none, p-both}
+use Rattle.lens.specs.Views.{View, copy, hide, then, swap, either, each, sources, looks, Makes, m-copy, m-hide, m-swap, Puts, p-hide, p-none, p-both}
 use Rattle.lens.specs.Clear.{Cut-once, Apart, Parts-once, Clear}
 use Rattle.lens.specs.Needed.{Careful, Any-default, Source-order, Source-parts, Too-weak, Needed}
 use Rattle.lens.proofs.Texts.{cons-not-nil}
@@ -53,14 +53,15 @@ any-default = (
 )
 
 -- A run of a, swapped with a b that has a run of a behind it: of ba both ab and ba are made.
+abbrev swapped : View
+swapped = swap (copy (many a)) (copy (seq b (many a)))
+
 source-order : Too-weak Source-order
 source-order = (
-  swap (copy (many a)) (copy (seq b (many a))),
+  swapped,
   (tt, tt, cut, cut),
   λ works.
-      let e = works .makes-one (codes "ba") (codes "ab") (codes "ba")
-      (m-swap (codes "a") (codes "b") (codes "a") (codes "b") (m-copy is-run) (m-copy (is-seq (codes "b") [] is-b is-none)))
-      (m-swap [] (codes "ba") [] (codes "ba") (m-copy is-none) (m-copy (is-seq (codes "b") (codes "a") is-b is-run))) in
+      let e = works .makes-one (codes "ba") (codes "ab") (codes "ba") makes-ab makes-ba in
       let z : _≡_ {A = ℕ} 97 98 = cc in
       omega arith,
 )
@@ -68,16 +69,25 @@ source-order = (
     cut : Cut-once (many a) (seq b (many a))
     cut = run-cut (ones-apart (inl (omega arith)))
 
--- Each a hidden: nothing put back into a is nothing, and a.
+    makes-ab : Makes swapped (codes "ba") (codes "ab")
+    makes-ab = m-swap (codes "a") (codes "b") (codes "a") (codes "b") (m-copy is-run) (m-copy (is-seq (codes "b") [] is-b is-none))
+
+    makes-ba : Makes swapped (codes "ba") (codes "ba")
+    makes-ba = m-swap [] (codes "ba") [] (codes "ba") (m-copy is-none) (m-copy (is-seq (codes "b") (codes "a") is-b is-run))
+
+-- Each a hidden: nothing put back into a gives nothing, and gives a.
+abbrev all-hidden : View
+all-hidden = each (hide a [] (codes "a"))
+
 source-parts : Too-weak Source-parts
 source-parts = (
-  each (hide a [] (codes "a")),
+  all-hidden,
   (is-a, one-parts, one-parts),
-  λ works.
-      cons-not-nil (works .puts-one [] (codes "a") (codes "a") []
-      (p-both [] [] (codes "a") [] (codes "a") [] (p-hide is-a) (p-none is-none))
-      (p-none is-run)),
+  λ works. cons-not-nil (works .puts-one [] (codes "a") (codes "a") [] gives-a (p-none is-run)),
 )
+  where
+    gives-a : Puts all-hidden [] (codes "a") (codes "a")
+    gives-a = p-both [] [] (codes "a") [] (codes "a") [] (p-hide is-a) (p-none is-none)
 
 pub needed : Needed
 needed = record {

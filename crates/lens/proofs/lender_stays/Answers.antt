@@ -1,3 +1,4 @@
+-- Hands over the theorem. Its proof is in proofs/Cases.
 use Rattle.lens.proofs.Cases.{lender-stays}
 use Rattle.lens.proofs.lender_stays.Needs as need
 

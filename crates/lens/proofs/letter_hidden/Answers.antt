@@ -1,3 +1,4 @@
+-- Hands over the theorem. Its proof is in proofs/Cases.
 use Rattle.lens.proofs.Cases.{letter-hidden}
 use Rattle.lens.proofs.letter_hidden.Needs as need
 

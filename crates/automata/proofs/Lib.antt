@@ -1,0 +1,1 @@
+-- What runs of automata tell of forms.

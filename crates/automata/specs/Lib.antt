@@ -1,0 +1,3 @@
+-- Automata for forms, and what they tell of views.
+pub mod Automaton
+pub mod Told

@@ -1,0 +1,1 @@
+// Automata for forms: which conditions of a clear view are questions of reachability.

@@ -1,1 +1,5 @@
 -- What runs of automata tell of forms.
+pub mod Runs
+pub mod Moves
+pub mod Paths
+pub mod Acting

@@ -3,3 +3,4 @@ pub mod Runs
 pub mod Moves
 pub mod Paths
 pub mod Acting
+pub mod Closed

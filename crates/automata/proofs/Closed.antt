@@ -64,6 +64,9 @@ module _ {A : Type 0} {shape : A → Shape A} {ok : A → Type 0} where
   closed-wider : {S T : A → Type 0} {l : List A} → ((r : A) → S r → T r) → Closed shape ok l S → Closed shape ok l T
   closed-wider h c = record { inside = c .inside; kept = λ q r m x. h r (c .kept q r m x) }
 
+  pub closed-alike : {shape′ : A → Shape A} {S : A → Type 0} {l : List A} → ((p : A) → ok p → shape′ p ≡ shape p) → Closed shape ok l S → Closed shape′ ok l S
+  closed-alike alike c = record { inside = c .inside; kept = λ q r m x. c .kept q r m (rw (alike q (c .inside q m)) at x) }
+
   -- one more state in front
   listed-more : {p n : A} {l : List A} {s : Shape A} → ok p → shape p ≡ s → Targets (λ r. List·Memᴰ r (n ∷ p ∷ l)) s → Closed shape ok l (λ r. List·Memᴰ r (n ∷ p ∷ l)) → Listed shape ok p n
   listed-more {p = p} {l = l} o e h c = record { states = p ∷ l; start = List·Memᴰ·tail (List·Memᴰ·head refl); closing = closed-more o e h c }
@@ -100,3 +103,14 @@ module _ {A : Type 0} {shape shape′ : A → Shape A} {ok : A → Type 0} {l : 
 
   pub stays : (p e : A) (t : Text) → List·Memᴰ p (n ∷ l) → Runs shape p t e → Runs shape′ p t e × List·Memᴰ e (n ∷ l)
   stays p e t m r = run-fold shape e (λ p t. List·Memᴰ p (n ∷ l) → Runs shape′ p t e × List·Memᴰ e (n ∷ l)) (λ m. (runs-none shape′ e, m)) (λ p q t s _ ih m. let (a, i) = next-stays p q m (inl s) in let (b, j) = ih i in (runs-silent shape′ p q t e (rw a s) b, j)) (λ p q x t s _ ih m. let (a, i) = next-stays p q m (inr (x, s)) in let (b, j) = ih i in (runs-reads shape′ p q x t e (rw a s) b, j)) (r .0) p t (r .1) m
+
+-- A run from among the states to a state that is not ok comes by n.
+module _ {A : Type 0} {shape shape′ : A → Shape A} {ok : A → Type 0} {l : List A} (n : A) (c : Closed shape ok l (λ r. List·Memᴰ r (n ∷ l))) (alike : (p : A) → ok p → shape′ p ≡ shape p) (e : A) (out : ok e → ⊥) where
+  abbrev pub Passes : A → Text → Type 0
+  Passes p t = (u v : Text) × (t ≡ u ++ v) × Runs shape′ p u n × Runs shape n v e
+
+  at-once : (p : A) (t : Text) → p ≡ n → Runs shape p t e → Passes p t
+  at-once p t i r = ([], t, refl, rw i (runs-none shape′ n), subst (λ z. Runs shape z t e) i r)
+
+  pub passes : (p : A) (t : Text) → List·Memᴰ p (n ∷ l) → Runs shape p t e → Passes p t
+  passes p t m r = run-fold shape e (λ p t. List·Memᴰ p (n ∷ l) → Passes p t) (λ m. elim (List·Memᴰ·cases-cons m) [ inl i ↦ at-once e [] i (runs-none shape e) | inr i ↦ absurd (out (c .inside e i)) ]) (λ p q t s r ih m. elim (List·Memᴰ·cases-cons m) [ inl i ↦ at-once p t i (runs-silent shape p q t e s r) | inr i ↦ let (u, v, w, a, b) = ih (c .kept p q i (inl s)) in (u, v, w, runs-silent shape′ p q u n (rw (alike p (c .inside p i)) s) a, b) ]) (λ p q x t s r ih m. elim (List·Memᴰ·cases-cons m) [ inl i ↦ at-once p (x ∷ t) i (runs-reads shape p q x t e s r) | inr i ↦ let (u, v, w, a, b) = ih (c .kept p q i (inr (x, s))) in (x ∷ u, v, ap (λ z. x ∷ z) w, runs-reads shape′ p q x u n (rw (alike p (c .inside p i)) s) a, b) ]) (r .0) p t (r .1) m

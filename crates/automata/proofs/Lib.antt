@@ -4,3 +4,8 @@ pub mod Moves
 pub mod Paths
 pub mod Acting
 pub mod Closed
+pub mod Ended
+pub mod Meet
+pub mod Levi
+pub mod Cut
+pub mod Nullable

@@ -1,7 +1,7 @@
 -- Paths of pairs of states: what a path reads, and that a path follows two runs that read the same.
 -- In `follow` the first run stops, and the second may have more to read.
 use mathlib.Core.Path.{_≡_, refl, sym, ap, subst}
-use mathlib.Core.List.{List, [], _∷_, _++_}
+use mathlib.Core.List.{List, [], _∷_, _++_, append-nil}
 use mathlib.Core.Logic.{_⊎_, inl, inr}
 use Prim.Native.Nat.{ℕ, zero, suc}
 use native.Mathlib.Omega.{arith}
@@ -25,6 +25,10 @@ reads-leaf stop x q m = m
 reads-leaf (to r) x q m = m
 reads-leaf (fork r r′) x q m = m
 reads-leaf (leaf a b r) x q m = tt
+
+pub path-join : {A : Type 0} {E : A → A → Type 0} {a b c : A} → Reach E a b → Reach E b c → Reach E a c
+path-join here k = k
+path-join (step e h) k = step e (path-join h k)
 
 module _ {A : Type 0} (shape : A → Shape A) where
   -- Both ends of a path are joined by runs over one text.
@@ -63,3 +67,7 @@ module _ {A : Type 0} (shape : A → Shape A) where
 
   pub rest-reads : (q e w : A) (x : ℕ) (v : Text) → shape e ≡ stop → Runs shape q (x ∷ v) w → (q′ : A) × Leaf (shape q′) × Reached shape (e, q) (e, q′) × Runs shape q′ (x ∷ v) w
   rest-reads q e w x v h r = run-fold shape w (λ q t. t ≡ x ∷ v → (q′ : A) × Leaf (shape q′) × Reached shape (e, q) (e, q′) × Runs shape q′ (x ∷ v) w) (λ c. let z : _≡_ {A = ℕ} 0 1 = cc in absurd (omega arith)) (λ q q′ t m _ ih c. let (l, a, b, d) = ih c in (l, a, by-move e q e q′ (e, l) (second (stop-waits (shape e) h) m refl) b, d)) (λ q q′ y t m s _ c. (q, reads-leaf (shape q) y q′ m, here, subst (λ z. Runs shape q z w) c (runs-reads shape q q′ y t w m s))) (r .0) q (x ∷ v) (r .1) refl
+
+  -- Two runs over one text meet where they stop.
+  pub runs-meet : (p q n : A) (u : Text) → shape n ≡ stop → Runs shape p u n → Runs shape q u n → Reached shape (p, q) (n, n)
+  runs-meet p q n u h r s = let (q′, k, t) = follow p q n n u [] r (rw append-nil s) in path-join k (rest-ends q′ n n h t)

@@ -1,0 +1,48 @@
+-- Whether the empty text is of a form is told by `nullable`. Then: parts of one form, none of them empty.
+use mathlib.Core.Path.{_≡_, refl, sym, ap, subst}
+use mathlib.Core.Bool.{Bool, true, false, cond}
+use mathlib.Core.List.{List, [], _∷_, _++_}
+use mathlib.Core.Logic.{_⊎_, inl, inr}
+use Prim.Native.Nat.{ℕ}
+use native.Mathlib.Omega.{arith}
+use borrow.Author.Tests.{clash, both-ways}
+use Rattle.lens.specs.Forms.{Text, Form, empty, one, seq, or, many, Matches, is-empty, is-one, is-seq, is-left, is-right, is-none, is-more}
+use Rattle.lens.specs.Clear.{Cut-once, Parts-once}
+use Rattle.automata.specs.Automaton.{Shape, Bounds, Acts, Crosses, nullable}
+use Rattle.automata.proofs.Cut.{cut-sound, cut-complete}
+
+pub nullable-sound : (f : Form) → nullable f ≡ true → Matches f []
+nullable-sound empty e = is-empty
+nullable-sound (one a b) e = absurd (clash e)
+nullable-sound (seq f g) e = on-both (nullable f) refl (nullable-sound f) (nullable-sound g) e
+  where
+    on-both : (x : Bool) → nullable f ≡ x → (nullable f ≡ true → Matches f []) → (nullable g ≡ true → Matches g []) → cond x (nullable g) false ≡ true → Matches (seq f g) []
+    on-both true i a b e = is-seq [] [] (a i) (b e)
+    on-both false i a b e = absurd (clash e)
+nullable-sound (or f g) e = on-either (nullable f) refl (nullable-sound f) (nullable-sound g) e
+  where
+    on-either : (x : Bool) → nullable f ≡ x → (nullable f ≡ true → Matches f []) → (nullable g ≡ true → Matches g []) → cond x true (nullable g) ≡ true → Matches (or f g) []
+    on-either true i a b e = is-left (a i)
+    on-either false i a b e = is-right (b e)
+nullable-sound (many f) e = is-none
+
+both-empty : {A : Type 0} (u v : List A) → u ++ v ≡ [] → (u ≡ []) × (v ≡ [])
+both-empty [] v e = (refl, e)
+both-empty (x ∷ u) v e = let z : _≡_ {A = ℕ} 0 1 = cc in absurd (omega arith)
+
+true-or : (x : Bool) → cond x true true ≡ true
+true-or true = refl
+true-or false = refl
+
+-- over any text that is empty
+null-of : {f : Form} {u : Text} → Matches f u → u ≡ [] → nullable f ≡ true
+null-of is-empty e = refl
+null-of (is-one l h) e = let z : _≡_ {A = ℕ} 0 1 = cc in absurd (omega arith)
+null-of (is-seq u v a b) e = let (i, j) = both-empty u v e in rw (null-of a i) (null-of b j)
+null-of (is-left a) e = rw (null-of a e) refl
+null-of {f = or f g} (is-right b) e = rw (null-of b e) (true-or (nullable f))
+null-of is-none e = refl
+null-of (is-more u v a b) e = refl
+
+pub nullable-complete : (f : Form) → Matches f [] → nullable f ≡ true
+nullable-complete f m = null-of m refl

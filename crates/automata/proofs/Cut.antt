@@ -1,20 +1,23 @@
 -- A text can be cut into two forms in two ways if and only if two runs cross: one goes over from the first form
--- to the second while the other still reads a byte of the first. Also parts of one form, none of them empty.
+-- to the second while the other still reads a byte of the first. Then parts of one form, none of them empty.
 use mathlib.Core.Path.{_≡_, refl, sym, _∙_, ap, subst}
 use mathlib.Core.Bool.{Bool, true, false}
 use mathlib.Core.List.{List, [], _∷_, _++_, append-nil, append-assoc, List·Memᴰ}
 use mathlib.Core.Logic.{_⊎_, inl, inr}
 use Prim.Native.Nat.{ℕ, zero, suc}
 use native.Mathlib.Omega.{arith}
-use Rattle.lens.specs.Forms.{Text, Form, Matches}
-use Rattle.lens.specs.Clear.{Cut-once}
-use Rattle.automata.specs.Automaton.{Shape, stop, to, fork, leaf, Leaf, Goes, Run, Runs, Reached, ended, Bounds, Acts, Crosses}
+use borrow.Author.Tests.{both-ways}
+use Rattle.lens.specs.Forms.{Text, Form, many, Matches}
+use Rattle.lens.specs.Clear.{Cut-once, Parts-once}
+use Rattle.automata.specs.Automaton.{Shape, stop, to, fork, leaf, Leaf, Goes, Run, Runs, Reached, ended, Bounds, Acts, Crosses, nullable}
 use Rattle.automata.proofs.Runs.{runs-join}
-use Rattle.automata.proofs.Paths.{path-join, path-eats, follow, rest-reads, runs-meet}
+use Rattle.reach.proofs.Join.{reach-join}
+use Rattle.automata.proofs.Paths.{path-eats, follow, rest-reads, runs-meet}
 use Rattle.automata.proofs.Acting.{acts-eat}
 use Rattle.automata.proofs.Closed.{Listed, Closed, closed, closed-alike, stays, passes}
 use Rattle.automata.proofs.Ended.{bounds-out, ended-stops, ended-alike, ended-acts, ended-reads}
 use Rattle.automata.proofs.Levi.{levi}
+use Rattle.automata.proofs.Nullable.{nullable-sound, nullable-complete}
 
 -- A leaf that runs on to where it would stop reads a byte.
 leaf-reads : {A : Type 0} (shape : A → Shape A) (k : ℕ) (q m : A) → Leaf (shape q) → shape m ≡ stop → Run shape k q [] m → ⊥
@@ -68,7 +71,7 @@ module _ {A : Type 0} (shape : A → Shape A) (at-m at-n : A → Bool) {ok ok′
       let act′ = ended-acts bn′ shape b in
       let (q₀, h₀, r₀) = follow to-m i i m m u (c ∷ z) (acts-eat to-m act f-u) (acts-eat to-m act f-uz) in
       let (q, l, h₁, r₁) = rest-reads to-m q₀ m m c z (ended-stops bm shape) r₀ in
-      let h = path-join h₀ h₁ in
+      let h = reach-join h₀ h₁ in
       let (t, _, i-q) = path-eats to-m h in
       let q-m = over q m (c ∷ z) (over i q t (listed .start) i-q .1) r₁ .0 in
       let q-n = runs-join to-n q m n (c ∷ z) y q-m (acts-eat to-n act′ g-y) in
@@ -84,3 +87,12 @@ module _ {A : Type 0} (shape : A → Shape A) (at-m at-n : A → Bool) {ok ok′
         [ inl h ↦ same-cut never u v x y (h .0) f-u g-v f-x g-y (h .1) (h .2)
         | inr h ↦ let (p, q) = same-cut never x y u v (h .0) f-x g-y f-u g-v (h .1) (h .2) in (sym p, sym q)
         ]
+
+-- Parts of one form: the state m acts as many of it, and i as the part.
+module _ {A : Type 0} (shape : A → Shape A) (at-m at-n : A → Bool) {ok ok′ : A → Type 0} {f : Form} {i m n : A} (bm : Bounds at-m ok m) (bn : Bounds at-n ok n) (bn′ : Bounds at-n ok′ n) (a : Acts shape ok f i m) (b : Acts shape ok′ (many f) m n) where
+  pub parts-sound : (nullable f ≡ true) ⊎ Crosses at-m at-n shape i m n → Parts-once f → ⊥
+  parts-sound (inl e) once = once .0 (nullable-sound f e)
+  parts-sound (inr h) once = cut-sound shape at-m at-n bm bn bn′ a b h (once .1)
+
+  pub parts-complete : nullable f ≡ false → (Crosses at-m at-n shape i m n → ⊥) → Parts-once f
+  parts-complete e never = (λ none. both-ways (nullable f) e (nullable-complete f none), cut-complete shape at-m at-n bm bn bn′ a b never)

@@ -7,5 +7,5 @@ pub mod Closed
 pub mod Ended
 pub mod Meet
 pub mod Levi
-pub mod Cut
 pub mod Nullable
+pub mod Cut

@@ -1,15 +1,12 @@
--- Whether the empty text is of a form is told by `nullable`. Then: parts of one form, none of them empty.
-use mathlib.Core.Path.{_≡_, refl, sym, ap, subst}
+-- Whether the empty text is of a form is told by `nullable`.
+use mathlib.Core.Path.{_≡_, refl}
 use mathlib.Core.Bool.{Bool, true, false, cond}
 use mathlib.Core.List.{List, [], _∷_, _++_}
-use mathlib.Core.Logic.{_⊎_, inl, inr}
 use Prim.Native.Nat.{ℕ}
 use native.Mathlib.Omega.{arith}
-use borrow.Author.Tests.{clash, both-ways}
+use borrow.Author.Tests.{clash}
 use Rattle.lens.specs.Forms.{Text, Form, empty, one, seq, or, many, Matches, is-empty, is-one, is-seq, is-left, is-right, is-none, is-more}
-use Rattle.lens.specs.Clear.{Cut-once, Parts-once}
-use Rattle.automata.specs.Automaton.{Shape, Bounds, Acts, Crosses, nullable}
-use Rattle.automata.proofs.Cut.{cut-sound, cut-complete}
+use Rattle.automata.specs.Automaton.{nullable}
 
 pub nullable-sound : (f : Form) → nullable f ≡ true → Matches f []
 nullable-sound empty e = is-empty

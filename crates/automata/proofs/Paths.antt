@@ -6,7 +6,8 @@ use mathlib.Core.Logic.{_⊎_, inl, inr}
 use Prim.Native.Nat.{ℕ, zero, suc}
 use native.Mathlib.Omega.{arith}
 use Rattle.lens.specs.Forms.{Text}
-use Rattle.reach.specs.Reach.{Reach, here, step}
+use Rattle.reach.specs.Reach.{here, step}
+use Rattle.reach.proofs.Join.{reach-join}
 use Rattle.automata.specs.Automaton.{Shape, stop, to, fork, leaf, Leaf, Run, Runs, Move, Reached}
 use Rattle.automata.proofs.Runs.{Silent, Reads, runs-none, runs-silent, runs-reads, run-fold}
 use Rattle.automata.proofs.Moves.{Waits, Moved, first, second, both, moves-sound, moves-complete}
@@ -25,10 +26,6 @@ reads-leaf stop x q m = m
 reads-leaf (to r) x q m = m
 reads-leaf (fork r r′) x q m = m
 reads-leaf (leaf a b r) x q m = tt
-
-pub path-join : {A : Type 0} {E : A → A → Type 0} {a b c : A} → Reach E a b → Reach E b c → Reach E a c
-path-join here k = k
-path-join (step e h) k = step e (path-join h k)
 
 module _ {A : Type 0} (shape : A → Shape A) where
   -- Both ends of a path are joined by runs over one text.
@@ -70,4 +67,4 @@ module _ {A : Type 0} (shape : A → Shape A) where
 
   -- Two runs over one text meet where they stop.
   pub runs-meet : (p q n : A) (u : Text) → shape n ≡ stop → Runs shape p u n → Runs shape q u n → Reached shape (p, q) (n, n)
-  runs-meet p q n u h r s = let (q′, k, t) = follow p q n n u [] r (rw append-nil s) in path-join k (rest-ends q′ n n h t)
+  runs-meet p q n u h r s = let (q′, k, t) = follow p q n n u [] r (rw append-nil s) in reach-join k (rest-ends q′ n n h t)

@@ -1,0 +1,3 @@
+-- Theorems about reachability.
+pub mod Join
+pub mod Decide

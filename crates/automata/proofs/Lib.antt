@@ -9,3 +9,6 @@ pub mod Meet
 pub mod Levi
 pub mod Nullable
 pub mod Cut
+pub mod Stacks
+pub mod Answered
+pub mod Told

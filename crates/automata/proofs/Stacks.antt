@@ -1,0 +1,81 @@
+-- The automaton whose states are stacks of forms, what the rest of a text must be one after the other: it acts
+-- as every form. Stacks can be told apart. Not here: what it decides (Answered).
+use mathlib.Core.Path.{_≡_, refl, sym, _∙_, ap, ap₂, subst}
+use mathlib.Core.Bool.{Bool, true, false}
+use mathlib.Core.List.{List, [], _∷_, List-discrete}
+use mathlib.Core.Logic.{_⊎_, inl, inr}
+use Prim.Native.Nat.{ℕ, suc, _≤_, _<_}
+use native.Mathlib.Decide.{ℕ-discrete}
+use native.Mathlib.Omega.{arith}
+use lib.Dec.{leb}
+use lib.ListN.{length}
+use borrow.Author.Tests.{le-leb, lt-leb}
+use Rattle.lens.specs.Forms.{Form, empty, one, seq, or, many}
+use Rattle.reach.proofs.Decide.{Decided}
+use Rattle.automata.specs.Automaton.{Shape, stop, to, fork, leaf, Bounds, Acts, a-pass, a-none, a-one, a-seq, a-or, a-many}
+
+abbrev pub Stack : Type 0
+Stack = List Form
+
+abbrev pub stacked : Stack → Shape Stack
+stacked [] = stop
+stacked (empty ∷ σ) = to σ
+stacked (one a b ∷ σ) = leaf a b σ
+stacked (seq f g ∷ σ) = to (f ∷ g ∷ σ)
+stacked (or f g ∷ σ) = fork (f ∷ σ) (g ∷ σ)
+stacked (many f ∷ σ) = fork σ (f ∷ many f ∷ σ)
+
+-- The stacks higher than k, and a test for the others.
+abbrev pub Above : ℕ → Stack → Type 0
+Above k σ = k < length σ
+
+abbrev pub at-most : ℕ → Stack → Bool
+at-most k σ = leb (length σ) k
+
+pub stack-bounds : (j k : ℕ) (σ : Stack) → j ≤ k → length σ ≤ j → Bounds (at-most j) (Above k) σ
+stack-bounds j k σ l h = record { found = le-leb (length σ) j h; passed = λ p o. lt-leb (length p) j (omega arith) }
+
+-- A form on top of a stack acts as that form, and then goes on at the stack.
+pub stack-acts : (k : ℕ) (f : Form) (σ : Stack) → k ≤ length σ → Acts stacked (Above k) f (f ∷ σ) σ
+stack-acts k empty σ l = a-pass σ (omega arith) refl a-none
+stack-acts k (one a b) σ l = a-one (omega arith) refl
+stack-acts k (seq f g) σ l = a-pass (f ∷ g ∷ σ) (omega arith) refl (a-seq (g ∷ σ) (stack-acts k f (g ∷ σ) (omega arith)) (stack-acts k g σ l))
+stack-acts k (or f g) σ l = a-or (f ∷ σ) (g ∷ σ) (omega arith) refl (stack-acts k f σ l) (stack-acts k g σ l)
+stack-acts k (many f) σ l = a-many (f ∷ many f ∷ σ) (omega arith) refl (stack-acts k f (many f ∷ σ) (omega arith))
+
+-- Equality of stacks, by a copy of the forms that has it.
+data Copy : Type 0 where
+  empty′ : Copy
+  one′ : ℕ → ℕ → Copy
+  seq′ : Copy → Copy → Copy
+  or′ : Copy → Copy → Copy
+  many′ : Copy → Copy
+  deriving Discrete as Copy-discrete
+
+copied : Form → Copy
+copied empty = empty′
+copied (one a b) = one′ a b
+copied (seq f g) = seq′ (copied f) (copied g)
+copied (or f g) = or′ (copied f) (copied g)
+copied (many f) = many′ (copied f)
+
+original : Copy → Form
+original empty′ = empty
+original (one′ a b) = one a b
+original (seq′ f g) = seq (original f) (original g)
+original (or′ f g) = or (original f) (original g)
+original (many′ f) = many (original f)
+
+original-copied : (f : Form) → original (copied f) ≡ f
+unfolding original copied
+original-copied empty = refl
+original-copied (one a b) = refl
+original-copied (seq f g) = ap₂ seq (original-copied f) (original-copied g)
+original-copied (or f g) = ap₂ or (original-copied f) (original-copied g)
+original-copied (many f) = ap many (original-copied f)
+
+form-discrete : Discrete Form
+form-discrete f g = elim (Copy-discrete ℕ-discrete (copied f) (copied g)) [ yes e ↦ yes (sym (original-copied f) ∙ ap original e ∙ original-copied g) | no h ↦ no (λ e. h (ap copied e)) ]
+
+pub stack-decided : (σ τ : Stack) → Decided (σ ≡ τ)
+stack-decided σ τ = elim (List-discrete form-discrete σ τ) [ yes e ↦ inl e | no h ↦ inr h ]

@@ -68,10 +68,10 @@ module _ {A : Type 0} (shape : A → Shape A) where
   back-many ok f p q n e o out s part (suc turns) k l t r =
       let (j, less, go) = first-move ok k p e t o out r in
       let turn : Run shape j n t e ⊎ Run shape j q t e = rw s at go in
-      elim turn
-        [ inl h ↦ record { eaten = []; rest = t; left = j; whole = refl; matches = is-none; goes-on = h; fewer = omega arith }
+      elim turn [
+        | inl h ↦ record { eaten = []; rest = t; left = j; whole = refl; matches = is-none; goes-on = h; fewer = omega arith }
         | inr h ↦ let a = part j t h in back-as (λ u m. m) (omega arith) (back-join is-more a (back-many ok f p q n e o out s part turns (a .left) (omega arith) (a .rest) (a .goes-on)))
-        ]
+      ]
 
   pub acts-back : {ok : A → Type 0} {f : Form} {p n : A} (e : A) (k : ℕ) (t : Text) → (ok e → ⊥) → Acts shape ok f p n → Run shape k p t e → Back f n e k t
   acts-back {ok = ok} {p = p} e k t out (a-pass q o s a) r =

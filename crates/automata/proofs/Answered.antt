@@ -121,7 +121,7 @@ module _ {A : Type 0} (same : (x y : A) → Decided (x ≡ y)) where
         go (inl l) (inl h) = let (u, r, s) = path-eats to-m h in last l h (reached-decided n (ended-stops bn′ shape) all-parts all-parts m q (n, n) (carried u m r) (carried u q s))
 
     pub crosses-decided : Decided (Crosses at-m at-n shape i m n)
-    crosses-decided = elim (any-decided CrossesAt crosses-at (m ∷ closed a .states))
-        [ inl z ↦ inl (z .0, z .2 .0, z .2 .1, z .2 .2)
-        | inr z ↦ inr (λ (q, l, h, k). z (q, reached-stays m (ended-stops bm shape) first-part first-part (i, i) (m, q) (closed a .start) (closed a .start) h .1, (l, h, k)))
-        ]
+    crosses-decided = elim (any-decided CrossesAt crosses-at (m ∷ closed a .states)) [
+      | inl z ↦ inl (z .0, z .2 .0, z .2 .1, z .2 .2)
+      | inr z ↦ inr (λ (q, l, h, k). z (q, reached-stays m (ended-stops bm shape) first-part first-part (i, i) (m, q) (closed a .start) (closed a .start) h .1, (l, h, k)))
+    ]

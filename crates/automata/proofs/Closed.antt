@@ -50,16 +50,16 @@ module _ {A : Type 0} {shape : A → Shape A} {ok : A → Type 0} where
   closed-none = record { inside = λ q h. absurd (List·Memᴰ·not-nil h); kept = λ q r h. absurd (List·Memᴰ·not-nil h) }
 
   closed-more : {S : A → Type 0} {p : A} {l : List A} {s : Shape A} → ok p → shape p ≡ s → Targets S s → Closed shape ok l S → Closed shape ok (p ∷ l) S
-  closed-more {S} {p} {l} {s} o e h c = record
-      { inside = λ q m. elim (List·Memᴰ·cases-cons m) [ inl i ↦ subst ok (sym i) o | inr i ↦ c .inside q i ]
-      ; kept = λ q r m x. elim (List·Memᴰ·cases-cons m) [ inl i ↦ next-is S s r h (subst (λ z. Next z r) (ap shape i ∙ e) x) | inr i ↦ c .kept q r i x ]
-      }
+  closed-more {S} {p} {l} {s} o e h c = record {
+    inside = λ q m. elim (List·Memᴰ·cases-cons m) [ inl i ↦ subst ok (sym i) o | inr i ↦ c .inside q i ];
+    kept = λ q r m x. elim (List·Memᴰ·cases-cons m) [ inl i ↦ next-is S s r h (subst (λ z. Next z r) (ap shape i ∙ e) x) | inr i ↦ c .kept q r i x ];
+  }
 
   closed-join : {S : A → Type 0} {l m : List A} → Closed shape ok l S → Closed shape ok m S → Closed shape ok (l ++ m) S
-  closed-join {l = l} c d = record
-      { inside = λ q h. elim (List·Memᴰ·append-cases l h) [ inl i ↦ c .inside q i | inr i ↦ d .inside q i ]
-      ; kept = λ q r h x. elim (List·Memᴰ·append-cases l h) [ inl i ↦ c .kept q r i x | inr i ↦ d .kept q r i x ]
-      }
+  closed-join {l = l} c d = record {
+    inside = λ q h. elim (List·Memᴰ·append-cases l h) [ inl i ↦ c .inside q i | inr i ↦ d .inside q i ];
+    kept = λ q r h x. elim (List·Memᴰ·append-cases l h) [ inl i ↦ c .kept q r i x | inr i ↦ d .kept q r i x ];
+  }
 
   closed-wider : {S T : A → Type 0} {l : List A} → ((r : A) → S r → T r) → Closed shape ok l S → Closed shape ok l T
   closed-wider h c = record { inside = c .inside; kept = λ q r m x. h r (c .kept q r m x) }

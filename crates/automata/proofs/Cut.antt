@@ -83,10 +83,10 @@ module _ {A : Type 0} (shape : A → Shape A) (at-m at-n : A → Bool) {ok ok′
 
   pub cut-complete : (Crosses at-m at-n shape i m n → ⊥) → Cut-once f g
   cut-complete never u v x y f-u g-v f-x g-y e =
-      elim (levi u v x y e)
-        [ inl h ↦ same-cut never u v x y (h .0) f-u g-v f-x g-y (h .1) (h .2)
+      elim (levi u v x y e) [
+        | inl h ↦ same-cut never u v x y (h .0) f-u g-v f-x g-y (h .1) (h .2)
         | inr h ↦ let (p, q) = same-cut never x y u v (h .0) f-x g-y f-u g-v (h .1) (h .2) in (sym p, sym q)
-        ]
+      ]
 
 -- Parts of one form: the state m acts as many of it, and i as the part.
 module _ {A : Type 0} (shape : A → Shape A) (at-m at-n : A → Bool) {ok ok′ : A → Type 0} {f : Form} {i m n : A} (bm : Bounds at-m ok m) (bn : Bounds at-n ok n) (bn′ : Bounds at-n ok′ n) (a : Acts shape ok f i m) (b : Acts shape ok′ (many f) m n) where

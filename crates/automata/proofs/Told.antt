@@ -25,16 +25,16 @@ bounded : Bounds (at-most 0) (Above 0) []
 bounded = stack-bounds 0 0 [] (omega arith) (omega arith)
 
 matches-decided : (f : Form) (d : Text) → Decided (Matches f d)
-matches-decided f d = elim (meets-decided stack-decided bounded (alone (exactly d)) (alone f))
-    [ inl h ↦ inl (literal-sound stacked (at-most 0) d bounded bounded (alone (exactly d)) (alone f) h)
-    | inr h ↦ inr (λ m. h (literal-complete stacked (at-most 0) d bounded bounded (alone (exactly d)) (alone f) m))
-    ]
+matches-decided f d = elim (meets-decided stack-decided bounded (alone (exactly d)) (alone f)) [
+  | inl h ↦ inl (literal-sound stacked (at-most 0) d bounded bounded (alone (exactly d)) (alone f) h)
+  | inr h ↦ inr (λ m. h (literal-complete stacked (at-most 0) d bounded bounded (alone (exactly d)) (alone f) m))
+]
 
 apart-decided : (f g : Form) → Decided (Apart f g)
-apart-decided f g = elim (meets-decided stack-decided bounded (alone f) (alone g))
-    [ inl h ↦ inr (λ apart. apart-sound stacked (at-most 0) bounded bounded (alone f) (alone g) apart h)
-    | inr h ↦ inl (apart-complete stacked (at-most 0) bounded bounded (alone f) (alone g) h)
-    ]
+apart-decided f g = elim (meets-decided stack-decided bounded (alone f) (alone g)) [
+  | inl h ↦ inr (λ apart. apart-sound stacked (at-most 0) bounded bounded (alone f) (alone g) apart h)
+  | inr h ↦ inl (apart-complete stacked (at-most 0) bounded bounded (alone f) (alone g) h)
+]
 
 cut-decided : (f g : Form) → Decided (Cut-once f g)
 cut-decided f g =
@@ -42,10 +42,10 @@ cut-decided f g =
     let bn = stack-bounds 0 1 [] (omega arith) (omega arith) in
     let a = stack-acts 1 f (g ∷ []) (omega arith) in
     let both = a-seq (g ∷ []) (stack-acts 0 f (g ∷ []) (omega arith)) (alone g) in
-    elim (crosses-decided stack-decided bm bn bounded a both)
-      [ inl h ↦ inr (cut-sound stacked (at-most 1) (at-most 0) bm bn bounded a (alone g) h)
+    elim (crosses-decided stack-decided bm bn bounded a both) [
+      | inl h ↦ inr (cut-sound stacked (at-most 1) (at-most 0) bm bn bounded a (alone g) h)
       | inr h ↦ inl (cut-complete stacked (at-most 1) (at-most 0) bm bn bounded a (alone g) h)
-      ]
+    ]
 
 not-decided : {P : Type 0} → Decided P → Decided (P → ⊥)
 not-decided (inl p) = inr (λ h. h p)
@@ -55,16 +55,16 @@ parts-decided : (f : Form) → Decided (Parts-once f)
 parts-decided f = decided-both (not-decided (matches-decided f [])) (cut-decided f (many f))
 
 four : {P Q R S : Type 0} → Decided P → Decided Q → Decided R → Decided S → Decided (P × Q × R × S)
-four p q r s = elim (decided-both (decided-both p q) (decided-both r s))
-    [ inl h ↦ inl (h .0 .0, h .0 .1, h .1 .0, h .1 .1)
-    | inr h ↦ inr (λ (x, y, z, w). h ((x, y), (z, w)))
-    ]
+four p q r s = elim (decided-both (decided-both p q) (decided-both r s)) [
+  | inl h ↦ inl (h .0 .0, h .0 .1, h .1 .0, h .1 .1)
+  | inr h ↦ inr (λ (x, y, z, w). h ((x, y), (z, w)))
+]
 
 three : {P Q R : Type 0} → Decided P → Decided Q → Decided R → Decided (P × Q × R)
-three p q r = elim (decided-both p (decided-both q r))
-    [ inl h ↦ inl (h .0, h .1 .0, h .1 .1)
-    | inr h ↦ inr (λ (x, y, z). h (x, (y, z)))
-    ]
+three p q r = elim (decided-both p (decided-both q r)) [
+  | inl h ↦ inl (h .0, h .1 .0, h .1 .1)
+  | inr h ↦ inr (λ (x, y, z). h (x, (y, z)))
+]
 
 pub told : Told
 told (copy f) = inl tt

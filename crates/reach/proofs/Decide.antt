@@ -58,10 +58,10 @@ module _ {A : Type 0} (E : A → A → Type 0) where
   via-join : (l : List A) (a c b : A) → List·Memᴰ c l → Via l a c → Via l c b → Via l a b
   via-join [] a c b m h k = absurd (List·Memᴰ·not-nil m)
   via-join (x ∷ l) a c b m h k =
-      elim (List·Memᴰ·cases-cons m)
-        [ inl e ↦ inr (before l a x (subst (λ z. Via (x ∷ l) a z) e h), after l x b (subst (λ z. Via (x ∷ l) z b) e k))
+      elim (List·Memᴰ·cases-cons m) [
+        | inl e ↦ inr (before l a x (subst (λ z. Via (x ∷ l) a z) e h), after l x b (subst (λ z. Via (x ∷ l) z b) e k))
         | inr i ↦ join-off l x a c b (λ a′ b′ h′ k′. via-join l a′ c b′ i h′ k′) h k
-        ]
+      ]
 
   via-complete : (l : List A) → ((a b : A) → List·Memᴰ a l → E a b → List·Memᴰ b l) → {a b : A} → List·Memᴰ a l → Reach E a b → Via l a b
   via-complete l kept {a} m here = via-none l a

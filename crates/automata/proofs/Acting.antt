@@ -1,13 +1,13 @@
 -- States that act as a form: they read the texts of the form and no others, up to where they go on.
 -- Also: shapes that agree act alike, and the states of a form are finitely many. Not here: pairs of states.
-use mathlib.Core.Path.{_≡_, refl, sym, _∙_, ap, subst}
-use mathlib.Core.List.{List, [], _∷_, _++_, append-assoc}
+use mathlib.Core.Path.{_≡_, refl, _∙_, subst}
+use mathlib.Core.List.{[], _∷_, _++_, append-assoc}
 use mathlib.Core.Logic.{_⊎_, inl, inr}
 use Prim.Native.Nat.{ℕ, zero, suc, _≤_, _<_}
 use native.Mathlib.Omega.{arith}
-use Rattle.lens.specs.Forms.{Text, Form, empty, one, seq, or, many, Matches, is-empty, is-one, is-seq, is-left, is-right, is-none, is-more}
-use Rattle.automata.specs.Automaton.{Shape, stop, to, fork, leaf, Goes, Eats, Run, Runs, Acts, a-pass, a-none, a-one, a-seq, a-or, a-many}
-use Rattle.automata.proofs.Runs.{Silent, Reads, runs-none, runs-silent, runs-reads, runs-join}
+use Rattle.lens.specs.Forms.{Text, Form, one, many, Matches, is-empty, is-one, is-seq, is-left, is-right, is-none, is-more}
+use Rattle.automata.specs.Automaton.{Shape, fork, Goes, Eats, Run, Runs, Acts, a-pass, a-none, a-one, a-seq, a-or, a-many}
+use Rattle.automata.proofs.Runs.{runs-none, runs-silent, runs-reads, runs-join}
 
 -- Alike
 

@@ -3,9 +3,9 @@
 use mathlib.Core.Path.{_≡_, refl, sym, _∙_, ap, subst}
 use mathlib.Core.List.{List, [], _∷_, _++_, List·Memᴰ, List·Memᴰ·head, List·Memᴰ·tail, List·Memᴰ·cases-cons, List·Memᴰ·append-cases, List·Memᴰ·not-nil, Memᴰ·append-left, Memᴰ·append-right, Memᴰ·cast}
 use mathlib.Core.Logic.{_⊎_, inl, inr}
-use Prim.Native.Nat.{ℕ, zero, suc}
-use Rattle.lens.specs.Forms.{Text, Form, empty, one, seq, or, many}
-use Rattle.automata.specs.Automaton.{Shape, stop, to, fork, leaf, Run, Runs, Acts, a-pass, a-none, a-one, a-seq, a-or, a-many}
+use Prim.Native.Nat.{ℕ}
+use Rattle.lens.specs.Forms.{Text, Form}
+use Rattle.automata.specs.Automaton.{Shape, stop, to, fork, leaf, Runs, Acts, a-pass, a-none, a-one, a-seq, a-or, a-many}
 use Rattle.automata.proofs.Runs.{Silent, Reads, runs-none, runs-silent, runs-reads, run-fold}
 
 -- Where a state of this shape can go on next.
@@ -102,7 +102,18 @@ module _ {A : Type 0} {shape shape′ : A → Shape A} {ok : A → Type 0} {l : 
   next-stays p q m x = elim (List·Memᴰ·cases-cons m) [ inl e ↦ absurd (next-is (λ _. ⊥) stop q tt (subst (λ z. Next z q) (ap shape e ∙ halt) x)) | inr i ↦ (alike p (c .inside p i), c .kept p q i x) ]
 
   pub stays : (p e : A) (t : Text) → List·Memᴰ p (n ∷ l) → Runs shape p t e → Runs shape′ p t e × List·Memᴰ e (n ∷ l)
-  stays p e t m r = run-fold shape e (λ p t. List·Memᴰ p (n ∷ l) → Runs shape′ p t e × List·Memᴰ e (n ∷ l)) (λ m. (runs-none shape′ e, m)) (λ p q t s _ ih m. let (a, i) = next-stays p q m (inl s) in let (b, j) = ih i in (runs-silent shape′ p q t e (rw a s) b, j)) (λ p q x t s _ ih m. let (a, i) = next-stays p q m (inr (x, s)) in let (b, j) = ih i in (runs-reads shape′ p q x t e (rw a s) b, j)) (r .0) p t (r .1) m
+  stays p e t m r =
+      run-fold shape e (λ p t. List·Memᴰ p (n ∷ l) → Runs shape′ p t e × List·Memᴰ e (n ∷ l))
+      (λ m. (runs-none shape′ e, m))
+      (λ p q t s _ ih m.
+      let (a, i) = next-stays p q m (inl s) in
+      let (b, j) = ih i in
+      (runs-silent shape′ p q t e (rw a s) b, j))
+      (λ p q x t s _ ih m.
+      let (a, i) = next-stays p q m (inr (x, s)) in
+      let (b, j) = ih i in
+      (runs-reads shape′ p q x t e (rw a s) b, j))
+      (r .0) p t (r .1) m
 
 -- A run from among the states to a state that is not ok comes by n.
 module _ {A : Type 0} {shape shape′ : A → Shape A} {ok : A → Type 0} {l : List A} (n : A) (c : Closed shape ok l (λ r. List·Memᴰ r (n ∷ l))) (alike : (p : A) → ok p → shape′ p ≡ shape p) (e : A) (out : ok e → ⊥) where
@@ -112,5 +123,18 @@ module _ {A : Type 0} {shape shape′ : A → Shape A} {ok : A → Type 0} {l : 
   at-once : (p : A) (t : Text) → p ≡ n → Runs shape p t e → Passes p t
   at-once p t i r = ([], t, refl, rw i (runs-none shape′ n), subst (λ z. Runs shape z t e) i r)
 
+  -- at n already, or before it
+  comes : (p : A) (t : Text) → List·Memᴰ p (n ∷ l) → Runs shape p t e → (List·Memᴰ p l → Passes p t) → Passes p t
+  comes p t m r before = elim (List·Memᴰ·cases-cons m) [ inl i ↦ at-once p t i r | inr i ↦ before i ]
+
   pub passes : (p : A) (t : Text) → List·Memᴰ p (n ∷ l) → Runs shape p t e → Passes p t
-  passes p t m r = run-fold shape e (λ p t. List·Memᴰ p (n ∷ l) → Passes p t) (λ m. elim (List·Memᴰ·cases-cons m) [ inl i ↦ at-once e [] i (runs-none shape e) | inr i ↦ absurd (out (c .inside e i)) ]) (λ p q t s r ih m. elim (List·Memᴰ·cases-cons m) [ inl i ↦ at-once p t i (runs-silent shape p q t e s r) | inr i ↦ let (u, v, w, a, b) = ih (c .kept p q i (inl s)) in (u, v, w, runs-silent shape′ p q u n (rw (alike p (c .inside p i)) s) a, b) ]) (λ p q x t s r ih m. elim (List·Memᴰ·cases-cons m) [ inl i ↦ at-once p (x ∷ t) i (runs-reads shape p q x t e s r) | inr i ↦ let (u, v, w, a, b) = ih (c .kept p q i (inr (x, s))) in (x ∷ u, v, ap (λ z. x ∷ z) w, runs-reads shape′ p q x u n (rw (alike p (c .inside p i)) s) a, b) ]) (r .0) p t (r .1) m
+  passes p t m r =
+      run-fold shape e (λ p t. List·Memᴰ p (n ∷ l) → Passes p t)
+      (λ m. comes e [] m (runs-none shape e) (λ i. absurd (out (c .inside e i))))
+      (λ p q t s r ih m. comes p t m (runs-silent shape p q t e s r) (λ i.
+      let (u, v, w, a, b) = ih (c .kept p q i (inl s)) in
+      (u, v, w, runs-silent shape′ p q u n (rw (alike p (c .inside p i)) s) a, b)))
+      (λ p q x t s r ih m. comes p (x ∷ t) m (runs-reads shape p q x t e s r) (λ i.
+      let (u, v, w, a, b) = ih (c .kept p q i (inr (x, s))) in
+      (x ∷ u, v, ap (λ z. x ∷ z) w, runs-reads shape′ p q x u n (rw (alike p (c .inside p i)) s) a, b)))
+      (r .0) p t (r .1) m

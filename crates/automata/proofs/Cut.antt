@@ -1,22 +1,21 @@
 -- A text can be cut into two forms in two ways if and only if two runs cross: one goes over from the first form
 -- to the second while the other still reads a byte of the first. Then parts of one form, none of them empty.
-use mathlib.Core.Path.{_≡_, refl, sym, _∙_, ap, subst}
+use mathlib.Core.Path.{_≡_, sym, _∙_, ap, subst}
 use mathlib.Core.Bool.{Bool, true, false}
 use mathlib.Core.List.{List, [], _∷_, _++_, append-nil, append-assoc, List·Memᴰ}
 use mathlib.Core.Logic.{_⊎_, inl, inr}
 use Prim.Native.Nat.{ℕ, zero, suc}
-use native.Mathlib.Omega.{arith}
 use borrow.Author.Tests.{both-ways}
 use Rattle.lens.specs.Forms.{Text, Form, many, Matches}
 use Rattle.lens.specs.Clear.{Cut-once, Parts-once}
-use Rattle.automata.specs.Automaton.{Shape, stop, to, fork, leaf, Leaf, Goes, Run, Runs, Reached, ended, Bounds, Acts, Crosses, nullable}
+use Rattle.automata.specs.Automaton.{Shape, stop, to, fork, leaf, Leaf, Goes, Run, Runs, ended, Bounds, Acts, Crosses, nullable}
 use Rattle.automata.proofs.Runs.{runs-join}
+use Rattle.lens.proofs.Texts.{levi}
 use Rattle.reach.proofs.Join.{reach-join}
 use Rattle.automata.proofs.Paths.{path-eats, follow, rest-reads, runs-meet}
 use Rattle.automata.proofs.Acting.{acts-eat}
-use Rattle.automata.proofs.Closed.{Listed, Closed, closed, closed-alike, stays, passes}
+use Rattle.automata.proofs.Closed.{Listed, closed, closed-alike, stays, passes}
 use Rattle.automata.proofs.Ended.{bounds-out, ended-stops, ended-alike, ended-acts, ended-reads}
-use Rattle.automata.proofs.Levi.{levi}
 use Rattle.automata.proofs.Nullable.{nullable-sound, nullable-complete}
 
 -- A leaf that runs on to where it would stop reads a byte.

@@ -1,14 +1,14 @@
 -- Automata stopped where a form goes on: the states before act as they did, and read the form's texts alone.
 use mathlib.Core.Path.{_≡_, refl, sym, _∙_, ap, subst}
-use mathlib.Core.Bool.{Bool, true, false, cond}
-use mathlib.Core.List.{List, [], _∷_, _++_, append-nil}
+use mathlib.Core.Bool.{Bool}
+use mathlib.Core.List.{_++_, append-nil}
 use Prim.Native.Nat.{ℕ}
 use lib.Dec.{eqb}
 use borrow.Author.Tests.{both-ways, eq-eqb, ne-eqb}
 use Rattle.lens.specs.Forms.{Text, Form, Matches}
-use Rattle.automata.specs.Automaton.{Shape, stop, Run, Runs, ended, Bounds, Acts}
+use Rattle.automata.specs.Automaton.{Shape, stop, Runs, ended, Bounds, Acts}
 use Rattle.automata.proofs.Runs.{run-stopped}
-use Rattle.automata.proofs.Acting.{Back, acts-alike, acts-back}
+use Rattle.automata.proofs.Acting.{acts-alike, acts-back}
 
 module _ {A : Type 0} {at-n : A → Bool} {ok : A → Type 0} {n : A} (b : Bounds at-n ok n) where
   pub bounds-out : ok n → ⊥

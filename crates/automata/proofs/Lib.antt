@@ -1,4 +1,4 @@
--- What runs of automata tell of forms.
+-- What runs of automata tell of forms: from single runs up to the theorem of specs/Told.
 pub mod Runs
 pub mod Moves
 pub mod Paths
@@ -6,9 +6,9 @@ pub mod Acting
 pub mod Closed
 pub mod Ended
 pub mod Meet
-pub mod Levi
 pub mod Nullable
 pub mod Cut
+pub mod Lists
+pub mod Decide
 pub mod Stacks
-pub mod Answered
 pub mod Told

@@ -1,11 +1,10 @@
 -- Whether the empty text is of a form is told by `nullable`.
 use mathlib.Core.Path.{_≡_, refl}
 use mathlib.Core.Bool.{Bool, true, false, cond}
-use mathlib.Core.List.{List, [], _∷_, _++_}
-use Prim.Native.Nat.{ℕ}
-use native.Mathlib.Omega.{arith}
+use mathlib.Core.List.{[]}
 use borrow.Author.Tests.{clash}
 use Rattle.lens.specs.Forms.{Text, Form, empty, one, seq, or, many, Matches, is-empty, is-one, is-seq, is-left, is-right, is-none, is-more}
+use Rattle.lens.proofs.Texts.{cons-not-nil, append-nil-left}
 use Rattle.automata.specs.Automaton.{nullable}
 
 pub nullable-sound : (f : Form) → nullable f ≡ true → Matches f []
@@ -23,10 +22,6 @@ nullable-sound (or f g) e = on-either (nullable f) refl (nullable-sound f) (null
     on-either false i a b e = is-right (b e)
 nullable-sound (many f) e = is-none
 
-both-empty : {A : Type 0} (u v : List A) → u ++ v ≡ [] → (u ≡ []) × (v ≡ [])
-both-empty [] v e = (refl, e)
-both-empty (x ∷ u) v e = let z : _≡_ {A = ℕ} 0 1 = cc in absurd (omega arith)
-
 true-or : (x : Bool) → cond x true true ≡ true
 true-or true = refl
 true-or false = refl
@@ -34,8 +29,8 @@ true-or false = refl
 -- over any text that is empty
 null-of : {f : Form} {u : Text} → Matches f u → u ≡ [] → nullable f ≡ true
 null-of is-empty e = refl
-null-of (is-one l h) e = let z : _≡_ {A = ℕ} 0 1 = cc in absurd (omega arith)
-null-of (is-seq u v a b) e = let (i, j) = both-empty u v e in rw (null-of a i) (null-of b j)
+null-of (is-one l h) e = cons-not-nil e
+null-of (is-seq u v a b) e = let none = append-nil-left u v e in rw (null-of a none) (null-of b (rw none at e))
 null-of (is-left a) e = rw (null-of a e) refl
 null-of {f = or f g} (is-right b) e = rw (null-of b e) (true-or (nullable f))
 null-of is-none e = refl

@@ -1,12 +1,11 @@
 -- Runs of an automaton: the single moves, one run after another, induction on a run, runs that stop.
 -- Not here: two runs side by side (Moves), runs of states that act as a form (Acting).
-use mathlib.Core.Path.{_≡_, refl, sym, ap, subst, subst₂}
-use mathlib.Core.Bool.{Bool, true, false, cond}
-use mathlib.Core.List.{List, [], _∷_, _++_}
+use mathlib.Core.Path.{_≡_, refl, sym, subst, subst₂}
+use mathlib.Core.List.{[], _∷_, _++_}
 use mathlib.Core.Logic.{_⊎_, inl, inr}
 use Prim.Native.Nat.{ℕ, zero, suc, _≤_}
 use Rattle.lens.specs.Forms.{Text}
-use Rattle.automata.specs.Automaton.{Shape, stop, to, fork, leaf, Goes, Eats, Run, Runs, ended}
+use Rattle.automata.specs.Automaton.{Shape, stop, to, fork, leaf, Goes, Run, Runs}
 
 -- Single moves
 
@@ -61,10 +60,19 @@ module _ {A : Type 0} (shape : A → Shape A) where
   -- Induction on a run, from its end backwards.
   pub run-fold : (e : A) (P : A → Text → Type 0) → P e [] → ((p q : A) (t : Text) → Silent (shape p) q → Runs shape q t e → P q t → P p t) → ((p q : A) (x : ℕ) (t : Text) → Reads (shape p) x q → Runs shape q t e → P q t → P p (x ∷ t)) → (k : ℕ) (p : A) (t : Text) → Run shape k p t e → P p t
   run-fold e P none silent reads zero p t r = subst₂ P (sym (r .0)) (sym (r .1)) none
-  run-fold e P none silent reads (suc k) p t r = goes-cases (λ z u. Run shape k z u e) (shape p) (λ u. P p u) (λ q u m s. silent p q u m (k, s) (run-fold e P none silent reads k q u s)) (λ q x u m s. reads p q x u m (k, s) (run-fold e P none silent reads k q u s)) t r
+  run-fold e P none silent reads (suc k) p t r =
+      goes-cases (λ z u. Run shape k z u e) (shape p) (P p)
+      (λ q u m s. silent p q u m (k, s) (run-fold e P none silent reads k q u s))
+      (λ q x u m s. reads p q x u m (k, s) (run-fold e P none silent reads k q u s))
+      t r
 
   pub runs-join : (p m e : A) (u v : Text) → Runs shape p u m → Runs shape m v e → Runs shape p (u ++ v) e
-  runs-join p m e u v r s = run-fold m (λ q t. Runs shape q (t ++ v) e) s (λ q q′ t a _ ih. runs-silent q q′ (t ++ v) e a ih) (λ q q′ x t a _ ih. runs-reads q q′ x (t ++ v) e a ih) (r .0) p u (r .1)
+  runs-join p m e u v r s =
+      run-fold m (λ q t. Runs shape q (t ++ v) e)
+      s
+      (λ q q′ t a _ ih. runs-silent q q′ (t ++ v) e a ih)
+      (λ q q′ x t a _ ih. runs-reads q q′ x (t ++ v) e a ih)
+      (r .0) p u (r .1)
 
   -- From a state that stops, nothing is read.
   pub run-stopped : (k : ℕ) (p : A) (t : Text) (e : A) → shape p ≡ stop → Run shape k p t e → t ≡ []

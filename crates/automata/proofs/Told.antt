@@ -1,21 +1,18 @@
 -- Of every view it can be told whether it is clear: its conditions are about runs over stacks of forms, and those
 -- are decided.
-use mathlib.Core.Path.{_≡_, refl}
-use mathlib.Core.Bool.{Bool, true, false}
-use mathlib.Core.List.{List, [], _∷_}
-use mathlib.Core.Logic.{_⊎_, inl, inr}
-use Prim.Native.Nat.{ℕ}
+use mathlib.Core.List.{[], _∷_}
+use mathlib.Core.Logic.{inl, inr}
 use native.Mathlib.Omega.{arith}
-use Rattle.lens.specs.Forms.{Text, Form, seq, many, Matches, exactly}
-use Rattle.lens.specs.Views.{View, copy, hide, then, swap, either, each, sources, looks}
-use Rattle.lens.specs.Clear.{Clear, Cut-once, Apart, Parts-once}
+use Rattle.lens.specs.Forms.{Text, Form, many, Matches, exactly}
+use Rattle.lens.specs.Views.{copy, hide, then, swap, either, each, sources, looks}
+use Rattle.lens.specs.Clear.{Cut-once, Apart, Parts-once}
 use Rattle.reach.proofs.Decide.{Decided, decided-both}
 use Rattle.automata.specs.Automaton.{Bounds, Acts, a-seq}
 use Rattle.automata.specs.Told.{Told}
 use Rattle.automata.proofs.Meet.{apart-sound, apart-complete, literal-sound, literal-complete}
 use Rattle.automata.proofs.Cut.{cut-sound, cut-complete}
-use Rattle.automata.proofs.Stacks.{Stack, stacked, Above, at-most, stack-bounds, stack-acts, stack-decided}
-use Rattle.automata.proofs.Answered.{meets-decided, crosses-decided}
+use Rattle.automata.proofs.Stacks.{stacked, Above, at-most, stack-bounds, stack-acts, stack-decided}
+use Rattle.automata.proofs.Decide.{meets-decided, crosses-decided}
 
 -- a form alone, and one form before another
 alone : (f : Form) → Acts stacked (Above 0) f (f ∷ []) []

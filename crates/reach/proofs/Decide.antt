@@ -1,6 +1,6 @@
 -- It can be told whether one node of a finite graph is reached from another: by Warshall's induction on the list
 -- of the nodes that a path may come by. Not here: an algorithm to run.
-use mathlib.Core.Path.{_≡_, refl, sym, subst}
+use mathlib.Core.Path.{_≡_, refl, subst}
 use mathlib.Core.List.{List, [], _∷_, List·Memᴰ, List·Memᴰ·cases-cons, List·Memᴰ·not-nil}
 use mathlib.Core.Logic.{_⊎_, inl, inr}
 use Rattle.reach.specs.Reach.{Reach, here, step}

@@ -11,7 +11,8 @@ use Rattle.automata.proofs.Runs.{runs-none, runs-silent, runs-reads, runs-join
 
 -- Alike
 
-module _ {A : Type 0} {shape shape′ : A → Shape A} {ok ok′ : A → Type 0} (wider : (p : A) → ok p → ok′ p) (alike : (p : A) → ok p → shape′ p ≡ shape p) where
+module _ {A : Type 0} {shape shape′ : A → Shape A} {ok ok′ : A → Type 0} (wider : (p : A) → ok p → ok′ p)
+    (alike : (p : A) → ok p → shape′ p ≡ shape p) where
   pub acts-alike : {f : Form} {p n : A} → Acts shape ok f p n → Acts shape′ ok′ f p n
   acts-alike {p = p} (a-pass q o e a) = a-pass q (wider p o) (alike p o ∙ e) (acts-alike a)
   acts-alike a-none = a-none
@@ -23,7 +24,8 @@ module _ {A : Type 0} {shape shape′ : A → Shape A} {ok ok′ : A → Type 0}
 module _ {A : Type 0} (shape : A → Shape A) where
   -- Complete: every text of the form is read.
 
-  eats-many : {f : Form} {u : Text} (p q n : A) → shape p ≡ fork n q → ((u : Text) → Matches f u → Runs shape q u p) → Matches (many f) u → Runs shape p u n
+  eats-many : {f : Form} {u : Text} (p q n : A) → shape p ≡ fork n q → ((u : Text) → Matches f u → Runs shape q u p) → Matches (many f) u →
+      Runs shape p u n
   eats-many p q n e part is-none = runs-silent shape p n [] n (rw e (inl refl)) (runs-none shape n)
   eats-many p q n e part (is-more u v a b) = runs-silent shape p q (u ++ v) n (rw e (inr refl)) (runs-join shape q p n u v (part u a) (eats-many p q n e part b))
 
@@ -50,11 +52,13 @@ module _ {A : Type 0} (shape : A → Shape A) where
   back-as : {f g : Form} {n e : A} {j k : ℕ} {t : Text} → ((u : Text) → Matches f u → Matches g u) → j ≤ k → Back f n e j t → Back g n e k t
   back-as h l a = record { eaten = a .eaten; rest = a .rest; left = a .left; whole = a .whole; matches = h (a .eaten) (a .matches); goes-on = a .goes-on; fewer = omega arith }
 
-  back-join : {f g h : Form} {m n e : A} {k : ℕ} {t : Text} → ((u v : Text) → Matches f u → Matches g v → Matches h (u ++ v)) → (a : Back f m e k t) → Back g n e (a .left) (a .rest) → Back h n e k t
+  back-join : {f g h : Form} {m n e : A} {k : ℕ} {t : Text} → ((u v : Text) → Matches f u → Matches g v → Matches h (u ++ v)) →
+      (a : Back f m e k t) → Back g n e (a .left) (a .rest) → Back h n e k t
   back-join h a b = record { eaten = a .eaten ++ b .eaten; rest = b .rest; left = b .left; whole = rw append-assoc (cc); matches = h (a .eaten) (b .eaten) (a .matches) (b .matches); goes-on = b .goes-on; fewer = omega arith }
 
   -- A state that is ok is not the run's end, so there is a first move.
-  first-move : (ok : A → Type 0) (k : ℕ) (p e : A) (t : Text) → ok p → (ok e → ⊥) → Run shape k p t e → (j : ℕ) × (j < k) × Goes (shape p) (λ q u. Run shape j q u e) t
+  first-move : (ok : A → Type 0) (k : ℕ) (p e : A) (t : Text) → ok p → (ok e → ⊥) → Run shape k p t e →
+      (j : ℕ) × (j < k) × Goes (shape p) (λ q u. Run shape j q u e) t
   first-move ok zero p e t o out r = absurd (out (subst ok (r .0) o))
   first-move ok (suc k) p e t o out r = (k, omega arith, r)
 
@@ -63,7 +67,9 @@ module _ {A : Type 0} (shape : A → Shape A) where
   back-one a b n e j k (x ∷ t) l r = record { eaten = x ∷ []; rest = t; left = j; whole = refl; matches = is-one (r .0) (r .1); goes-on = r .2; fewer = omega arith }
 
   -- with as many turns as there are moves, at most
-  back-many : (ok : A → Type 0) (f : Form) (p q n e : A) → ok p → (ok e → ⊥) → shape p ≡ fork n q → ((k : ℕ) (t : Text) → Run shape k q t e → Back f p e k t) → (turns k : ℕ) → k ≤ turns → (t : Text) → Run shape k p t e → Back (many f) n e k t
+  back-many : (ok : A → Type 0) (f : Form) (p q n e : A) → ok p → (ok e → ⊥) → shape p ≡ fork n q →
+      ((k : ℕ) (t : Text) → Run shape k q t e → Back f p e k t) → (turns k : ℕ) → k ≤ turns → (t : Text) → Run shape k p t e →
+      Back (many f) n e k t
   back-many ok f p q n e o out s part zero k l t r = let (j, less, _) = first-move ok k p e t o out r in absurd (omega arith)
   back-many ok f p q n e o out s part (suc turns) k l t r =
       let (j, less, go) = first-move ok k p e t o out r in
@@ -73,7 +79,8 @@ module _ {A : Type 0} (shape : A → Shape A) where
         | inr h ↦ let a = part j t h in back-as (λ u m. m) (omega arith) (back-join is-more a (back-many ok f p q n e o out s part turns (a .left) (omega arith) (a .rest) (a .goes-on)))
       ]
 
-  pub acts-back : {ok : A → Type 0} {f : Form} {p n : A} (e : A) (k : ℕ) (t : Text) → (ok e → ⊥) → Acts shape ok f p n → Run shape k p t e → Back f n e k t
+  pub acts-back : {ok : A → Type 0} {f : Form} {p n : A} (e : A) (k : ℕ) (t : Text) → (ok e → ⊥) → Acts shape ok f p n →
+      Run shape k p t e → Back f n e k t
   acts-back {ok = ok} {p = p} e k t out (a-pass q o s a) r =
       let (j, less, go) = first-move ok k p e t o out r in
       let next : Run shape j q t e = rw s at go in

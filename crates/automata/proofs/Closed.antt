@@ -42,14 +42,16 @@ pub record Listed {A : Type 0} (shape : A → Shape A) (ok : A → Type 0) (p n 
   pub closing : Closed shape ok states (λ r. List·Memᴰ r (n ∷ states))
 
 -- Every member of `n ∷ l` is a member of m.
-within : {A : Type 0} {n : A} {l m : List A} → List·Memᴰ n m → ((r : A) → List·Memᴰ r l → List·Memᴰ r m) → (r : A) → List·Memᴰ r (n ∷ l) → List·Memᴰ r m
+within : {A : Type 0} {n : A} {l m : List A} → List·Memᴰ n m → ((r : A) → List·Memᴰ r l → List·Memᴰ r m) → (r : A) → List·Memᴰ r (n ∷ l) →
+    List·Memᴰ r m
 within h k r x = elim (List·Memᴰ·cases-cons x) [ inl e ↦ Memᴰ·cast e h | inr y ↦ k r y ]
 
 module _ {A : Type 0} {shape : A → Shape A} {ok : A → Type 0} where
   closed-none : {S : A → Type 0} → Closed shape ok [] S
   closed-none = record { inside = λ q h. absurd (List·Memᴰ·not-nil h); kept = λ q r h. absurd (List·Memᴰ·not-nil h) }
 
-  closed-more : {S : A → Type 0} {p : A} {l : List A} {s : Shape A} → ok p → shape p ≡ s → Targets S s → Closed shape ok l S → Closed shape ok (p ∷ l) S
+  closed-more : {S : A → Type 0} {p : A} {l : List A} {s : Shape A} → ok p → shape p ≡ s → Targets S s → Closed shape ok l S →
+      Closed shape ok (p ∷ l) S
   closed-more {S} {p} {l} {s} o e h c = record {
     inside = λ q m. elim (List·Memᴰ·cases-cons m) [ inl i ↦ subst ok (sym i) o | inr i ↦ c .inside q i ];
     kept = λ q r m x. elim (List·Memᴰ·cases-cons m) [ inl i ↦ next-is S s r h (subst (λ z. Next z r) (ap shape i ∙ e) x) | inr i ↦ c .kept q r i x ];
@@ -64,11 +66,13 @@ module _ {A : Type 0} {shape : A → Shape A} {ok : A → Type 0} where
   closed-wider : {S T : A → Type 0} {l : List A} → ((r : A) → S r → T r) → Closed shape ok l S → Closed shape ok l T
   closed-wider h c = record { inside = c .inside; kept = λ q r m x. h r (c .kept q r m x) }
 
-  pub closed-alike : {shape′ : A → Shape A} {S : A → Type 0} {l : List A} → ((p : A) → ok p → shape′ p ≡ shape p) → Closed shape ok l S → Closed shape′ ok l S
+  pub closed-alike : {shape′ : A → Shape A} {S : A → Type 0} {l : List A} → ((p : A) → ok p → shape′ p ≡ shape p) → Closed shape ok l S →
+      Closed shape′ ok l S
   closed-alike alike c = record { inside = c .inside; kept = λ q r m x. c .kept q r m (rw (alike q (c .inside q m)) at x) }
 
   -- one more state in front
-  listed-more : {p n : A} {l : List A} {s : Shape A} → ok p → shape p ≡ s → Targets (λ r. List·Memᴰ r (n ∷ p ∷ l)) s → Closed shape ok l (λ r. List·Memᴰ r (n ∷ p ∷ l)) → Listed shape ok p n
+  listed-more : {p n : A} {l : List A} {s : Shape A} → ok p → shape p ≡ s → Targets (λ r. List·Memᴰ r (n ∷ p ∷ l)) s →
+      Closed shape ok l (λ r. List·Memᴰ r (n ∷ p ∷ l)) → Listed shape ok p n
   listed-more {p = p} {l = l} o e h c = record { states = p ∷ l; start = List·Memᴰ·tail (List·Memᴰ·head refl); closing = closed-more o e h c }
 
   pub closed : {f : Form} {p n : A} → Acts shape ok f p n → Listed shape ok p n
@@ -97,7 +101,8 @@ module _ {A : Type 0} {shape : A → Shape A} {ok : A → Type 0} where
 
 -- A run from among the states, in an automaton that stops at n, stays among them and n; so it is a run of every
 -- automaton that is alike on them.
-module _ {A : Type 0} {shape shape′ : A → Shape A} {ok : A → Type 0} {l : List A} (n : A) (halt : shape n ≡ stop) (c : Closed shape ok l (λ r. List·Memᴰ r (n ∷ l))) (alike : (p : A) → ok p → shape′ p ≡ shape p) where
+module _ {A : Type 0} {shape shape′ : A → Shape A} {ok : A → Type 0} {l : List A} (n : A) (halt : shape n ≡ stop)
+    (c : Closed shape ok l (λ r. List·Memᴰ r (n ∷ l))) (alike : (p : A) → ok p → shape′ p ≡ shape p) where
   next-stays : (p q : A) → List·Memᴰ p (n ∷ l) → Next (shape p) q → (shape′ p ≡ shape p) × List·Memᴰ q (n ∷ l)
   next-stays p q m x = elim (List·Memᴰ·cases-cons m) [ inl e ↦ absurd (next-is (λ _. ⊥) stop q tt (subst (λ z. Next z q) (ap shape e ∙ halt) x)) | inr i ↦ (alike p (c .inside p i), c .kept p q i x) ]
 
@@ -116,7 +121,8 @@ module _ {A : Type 0} {shape shape′ : A → Shape A} {ok : A → Type 0} {l : 
       (r .0) p t (r .1) m
 
 -- A run from among the states to a state that is not ok comes by n.
-module _ {A : Type 0} {shape shape′ : A → Shape A} {ok : A → Type 0} {l : List A} (n : A) (c : Closed shape ok l (λ r. List·Memᴰ r (n ∷ l))) (alike : (p : A) → ok p → shape′ p ≡ shape p) (e : A) (out : ok e → ⊥) where
+module _ {A : Type 0} {shape shape′ : A → Shape A} {ok : A → Type 0} {l : List A} (n : A)
+    (c : Closed shape ok l (λ r. List·Memᴰ r (n ∷ l))) (alike : (p : A) → ok p → shape′ p ≡ shape p) (e : A) (out : ok e → ⊥) where
   abbrev pub Passes : A → Text → Type 0
   Passes p t = (u v : Text) × (t ≡ u ++ v) × Runs shape′ p u n × Runs shape n v e
 

@@ -34,7 +34,8 @@ nothing-more : {A : Type 0} (u w : List A) → u ≡ u ++ w → w ≡ []
 nothing-more [] w e = sym e
 nothing-more (a ∷ u) w e = nothing-more u w (cc)
 
-module _ {A : Type 0} (shape : A → Shape A) (at-m at-n : A → Bool) {ok ok′ : A → Type 0} {f g : Form} {i m n : A} (bm : Bounds at-m ok m) (bn : Bounds at-n ok n) (bn′ : Bounds at-n ok′ n) (a : Acts shape ok f i m) (b : Acts shape ok′ g m n) where
+module _ {A : Type 0} (shape : A → Shape A) (at-m at-n : A → Bool) {ok ok′ : A → Type 0} {f g : Form} {i m n : A}
+    (bm : Bounds at-m ok m) (bn : Bounds at-n ok n) (bn′ : Bounds at-n ok′ n) (a : Acts shape ok f i m) (b : Acts shape ok′ g m n) where
   -- the automata stopped at m and at n: they are alike on the states of f
   abbrev to-m : A → Shape A
   to-m = ended at-m shape
@@ -64,7 +65,8 @@ module _ {A : Type 0} (shape : A → Shape A) (at-m at-n : A → Bool) {ok ok′
       leaf-reads to-m (q-m .0) q m l (ended-stops bm shape) (subst (λ z. Run to-m (q-m .0) q z m) none (q-m .1))
 
   -- Of two cuts the second has more in front: its run is at a leaf where the first one's has come to m.
-  crossing : (u v y : Text) (c : ℕ) (z : Text) → Matches f u → Matches g v → Matches f (u ++ (c ∷ z)) → Matches g y → v ≡ (c ∷ z) ++ y → Crosses at-m at-n shape i m n
+  crossing : (u v y : Text) (c : ℕ) (z : Text) → Matches f u → Matches g v → Matches f (u ++ (c ∷ z)) → Matches g y → v ≡ (c ∷ z) ++ y →
+      Crosses at-m at-n shape i m n
   crossing u v y c z f-u g-v f-uz g-y e =
       let act = ended-acts bm shape a in
       let act′ = ended-acts bn′ shape b in
@@ -76,7 +78,8 @@ module _ {A : Type 0} (shape : A → Shape A) (at-m at-n : A → Bool) {ok ok′
       let q-n = runs-join to-n q m n (c ∷ z) y q-m (acts-eat to-n act′ g-y) in
       (q, l, h, runs-meet to-n m q n v (ended-stops bn shape) (acts-eat to-n act′ g-v) (rw e q-n))
 
-  same-cut : (Crosses at-m at-n shape i m n → ⊥) → (u v x y w : Text) → Matches f u → Matches g v → Matches f x → Matches g y → x ≡ u ++ w → v ≡ w ++ y → (u ≡ x) × (v ≡ y)
+  same-cut : (Crosses at-m at-n shape i m n → ⊥) → (u v x y w : Text) → Matches f u → Matches g v → Matches f x → Matches g y →
+      x ≡ u ++ w → v ≡ w ++ y → (u ≡ x) × (v ≡ y)
   same-cut never u v x y [] f-u g-v f-x g-y e k = (sym (e ∙ append-nil u), k)
   same-cut never u v x y (c ∷ z) f-u g-v f-x g-y e k = absurd (never (crossing u v y c z f-u g-v (rw e at f-x) g-y k))
 
@@ -88,7 +91,8 @@ module _ {A : Type 0} (shape : A → Shape A) (at-m at-n : A → Bool) {ok ok′
       ]
 
 -- Parts of one form: the state m acts as many of it, and i as the part.
-module _ {A : Type 0} (shape : A → Shape A) (at-m at-n : A → Bool) {ok ok′ : A → Type 0} {f : Form} {i m n : A} (bm : Bounds at-m ok m) (bn : Bounds at-n ok n) (bn′ : Bounds at-n ok′ n) (a : Acts shape ok f i m) (b : Acts shape ok′ (many f) m n) where
+module _ {A : Type 0} (shape : A → Shape A) (at-m at-n : A → Bool) {ok ok′ : A → Type 0} {f : Form} {i m n : A} (bm : Bounds at-m ok m)
+    (bn : Bounds at-n ok n) (bn′ : Bounds at-n ok′ n) (a : Acts shape ok f i m) (b : Acts shape ok′ (many f) m n) where
   pub parts-sound : (nullable f ≡ true) ⊎ Crosses at-m at-n shape i m n → Parts-once f → ⊥
   parts-sound (inl e) once = once .0 (nullable-sound f e)
   parts-sound (inr h) once = cut-sound shape at-m at-n bm bn bn′ a b h (once .1)

@@ -21,8 +21,10 @@ leaf-decided (leaf a b q) = inl tt
 
 module _ {A : Type 0} (same : (x y : A) → Decided (x ≡ y)) where
   -- From among finitely many states, in an automaton that stops at n.
-  module _ {shape : A → Shape A} {ok : A → Type 0} (n : A) (halt : shape n ≡ stop) {l m : List A} (c : Closed shape ok l (λ r. List·Memᴰ r (n ∷ l))) (d : Closed shape ok m (λ r. List·Memᴰ r (n ∷ m))) where
-    pub reached-stays : (s t : A × A) → List·Memᴰ (s .0) (n ∷ l) → List·Memᴰ (s .1) (n ∷ m) → Reached shape s t → List·Memᴰ (t .0) (n ∷ l) × List·Memᴰ (t .1) (n ∷ m)
+  module _ {shape : A → Shape A} {ok : A → Type 0} (n : A) (halt : shape n ≡ stop) {l m : List A}
+      (c : Closed shape ok l (λ r. List·Memᴰ r (n ∷ l))) (d : Closed shape ok m (λ r. List·Memᴰ r (n ∷ m))) where
+    pub reached-stays : (s t : A × A) → List·Memᴰ (s .0) (n ∷ l) → List·Memᴰ (s .1) (n ∷ m) → Reached shape s t →
+        List·Memᴰ (t .0) (n ∷ l) × List·Memᴰ (t .1) (n ∷ m)
     reached-stays s t i j h = let (u, r, k) = path-eats shape h in (stays {shape′ = shape} n halt c (λ p o. refl) (s .0) (t .0) u i r .1, stays {shape′ = shape} n halt d (λ p o. refl) (s .1) (t .1) u j k .1)
 
     move-kept : (s t : A × A) → List·Memᴰ s (pairs (n ∷ l) (n ∷ m)) → Move shape s t → List·Memᴰ t (pairs (n ∷ l) (n ∷ m))
@@ -31,7 +33,8 @@ module _ {A : Type 0} (same : (x y : A) → Decided (x ≡ y)) where
     pub reached-decided : (p q : A) (t : A × A) → List·Memᴰ p (n ∷ l) → List·Memᴰ q (n ∷ m) → Decided (Reached shape (p, q) t)
     reached-decided p q t i j = reach-decided (Move shape) (same-pair same) (λ s r. among-decided same r (moves (s .0) (s .1) (shape (s .0)) (shape (s .1)))) (pairs (n ∷ l) (n ∷ m)) move-kept (p, q) t (in-pairs (n ∷ l) (n ∷ m) p q i j)
 
-  pub meets-decided : {shape : A → Shape A} {at-n : A → Bool} {ok : A → Type 0} {f g : Form} {p q n : A} → Bounds at-n ok n → Acts shape ok f p n → Acts shape ok g q n → Decided (Meets at-n shape p q n)
+  pub meets-decided : {shape : A → Shape A} {at-n : A → Bool} {ok : A → Type 0} {f g : Form} {p q n : A} → Bounds at-n ok n →
+      Acts shape ok f p n → Acts shape ok g q n → Decided (Meets at-n shape p q n)
   meets-decided {shape} {at-n} {ok} {f} {g} {p} {q} {n} b a a′ =
       let c = closed a in
       let d = closed a′ in
@@ -39,7 +42,8 @@ module _ {A : Type 0} (same : (x y : A) → Decided (x ≡ y)) where
       reached-decided n (ended-stops b shape) (closed-alike alike (c .closing)) (closed-alike alike (d .closing)) p q (n, n) (c .start) (d .start)
 
   -- `ok` is for the states before m, and `ok′` for all those before n.
-  module _ {shape : A → Shape A} {at-m at-n : A → Bool} {ok ok′ : A → Type 0} {f g : Form} {i m n : A} (bm : Bounds at-m ok m) (bn : Bounds at-n ok n) (bn′ : Bounds at-n ok′ n) (a : Acts shape ok f i m) (b : Acts shape ok′ g i n) where
+  module _ {shape : A → Shape A} {at-m at-n : A → Bool} {ok ok′ : A → Type 0} {f g : Form} {i m n : A} (bm : Bounds at-m ok m)
+      (bn : Bounds at-n ok n) (bn′ : Bounds at-n ok′ n) (a : Acts shape ok f i m) (b : Acts shape ok′ g i n) where
     abbrev to-m : A → Shape A
     to-m = ended at-m shape
 

@@ -15,7 +15,8 @@ unfolding pairs
 pairs-in [] m s h = absurd (List·Memᴰ·not-nil h)
 pairs-in {A} (x ∷ l) m s h = sides (List·Memᴰ·append-cases (map (λ y. (x, y)) m) h) (pairs-in l m s)
   where
-    sides : List·Memᴰ s (map (λ y. (x, y)) m) ⊎ List·Memᴰ s (pairs l m) → (List·Memᴰ s (pairs l m) → List·Memᴰ (s .0) l × List·Memᴰ (s .1) m) → List·Memᴰ (s .0) (x ∷ l) × List·Memᴰ (s .1) m
+    sides : List·Memᴰ s (map (λ y. (x, y)) m) ⊎ List·Memᴰ s (pairs l m) →
+        (List·Memᴰ s (pairs l m) → List·Memᴰ (s .0) l × List·Memᴰ (s .1) m) → List·Memᴰ (s .0) (x ∷ l) × List·Memᴰ (s .1) m
     sides (inl k) ih = let (y, i, e) = Memᴰ·of-map (λ y. (x, y)) m k in (List·Memᴰ·head (sym (ap (λ z. z .0) e)), Memᴰ·cast (sym (ap (λ z. z .1) e)) i)
     sides (inr k) ih = let (i, j) = ih k in (List·Memᴰ·tail i, j)
 

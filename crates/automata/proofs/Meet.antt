@@ -9,7 +9,8 @@ use Rattle.automata.proofs.Acting.{acts-eat}
 use Rattle.automata.proofs.Paths.{path-eats, runs-meet}
 use Rattle.automata.proofs.Ended.{ended-stops, ended-acts, ended-reads}
 
-module _ {A : Type 0} (shape : A → Shape A) (at-n : A → Bool) {ok ok′ : A → Type 0} {f g : Form} {p q n : A} (b : Bounds at-n ok n) (b′ : Bounds at-n ok′ n) (a : Acts shape ok f p n) (a′ : Acts shape ok′ g q n) where
+module _ {A : Type 0} (shape : A → Shape A) (at-n : A → Bool) {ok ok′ : A → Type 0} {f g : Form} {p q n : A} (b : Bounds at-n ok n)
+    (b′ : Bounds at-n ok′ n) (a : Acts shape ok f p n) (a′ : Acts shape ok′ g q n) where
   pub meet-sound : Meets at-n shape p q n → (u : Text) × Matches f u × Matches g u
   meet-sound h = let (u, r, s) = path-eats (ended at-n shape) h in (u, ended-reads b shape a r, ended-reads b′ shape a′ s)
 
@@ -23,7 +24,8 @@ module _ {A : Type 0} (shape : A → Shape A) (at-n : A → Bool) {ok ok′ : A 
   apart-complete h u x y = h (meet-complete u x y)
 
 -- A text against a form
-module _ {A : Type 0} (shape : A → Shape A) (at-n : A → Bool) {ok ok′ : A → Type 0} {g : Form} {p q n : A} (d : Text) (b : Bounds at-n ok n) (b′ : Bounds at-n ok′ n) (a : Acts shape ok (exactly d) p n) (a′ : Acts shape ok′ g q n) where
+module _ {A : Type 0} (shape : A → Shape A) (at-n : A → Bool) {ok ok′ : A → Type 0} {g : Form} {p q n : A} (d : Text)
+    (b : Bounds at-n ok n) (b′ : Bounds at-n ok′ n) (a : Acts shape ok (exactly d) p n) (a′ : Acts shape ok′ g q n) where
   pub literal-sound : Meets at-n shape p q n → Matches g d
   literal-sound m = let (u, x, y) = meet-sound shape at-n b b′ a a′ m in on-exactly d (λ v. Matches g v → Matches g d) x (λ z. z) y
 

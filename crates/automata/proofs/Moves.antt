@@ -36,10 +36,12 @@ module _ {A : Type 0} (p q : A) where
   only : (s t : Shape A) (m r : A × A) → Moved p q s t (m .0) (m .1) → List·Memᴰ r (m ∷ []) → Moved p q s t (r .0) (r .1)
   only s t m r k h = subst (λ z. Moved p q s t (z .0) (z .1)) (sym (List·Memᴰ·eq-of-singleton h)) k
 
-  of-two : (s t : Shape A) (m n r : A × A) → Moved p q s t (m .0) (m .1) → Moved p q s t (n .0) (n .1) → List·Memᴰ r (m ∷ n ∷ []) → Moved p q s t (r .0) (r .1)
+  of-two : (s t : Shape A) (m n r : A × A) → Moved p q s t (m .0) (m .1) → Moved p q s t (n .0) (n .1) → List·Memᴰ r (m ∷ n ∷ []) →
+      Moved p q s t (r .0) (r .1)
   of-two s t m n r k l h = elim (List·Memᴰ·cases-cons h) [ inl e ↦ subst (λ z. Moved p q s t (z .0) (z .1)) (sym e) k | inr h′ ↦ only s t n r l h′ ]
 
-  together : (a b c d : ℕ) (p′ q′ : A) (r : A × A) (o : Bool) → overlap a b c d ≡ o → List·Memᴰ r (cond o ((p′, q′) ∷ []) []) → Moved p q (leaf a b p′) (leaf c d q′) (r .0) (r .1)
+  together : (a b c d : ℕ) (p′ q′ : A) (r : A × A) (o : Bool) → overlap a b c d ≡ o → List·Memᴰ r (cond o ((p′, q′) ∷ []) []) →
+      Moved p q (leaf a b p′) (leaf c d q′) (r .0) (r .1)
   together a b c d p′ q′ r true e h = let (x, l₁, h₁, l₂, h₂) = overlap-sound a b c d e in only (leaf a b p′) (leaf c d q′) (p′, q′) r (both x (l₁, h₁, refl) (l₂, h₂, refl)) h
   together a b c d p′ q′ r false e h = absurd (List·Memᴰ·not-nil h)
 

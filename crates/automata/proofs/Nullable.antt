@@ -12,12 +12,14 @@ nullable-sound empty e = is-empty
 nullable-sound (one a b) e = absurd (clash e)
 nullable-sound (seq f g) e = on-both (nullable f) refl (nullable-sound f) (nullable-sound g) e
   where
-    on-both : (x : Bool) → nullable f ≡ x → (nullable f ≡ true → Matches f []) → (nullable g ≡ true → Matches g []) → cond x (nullable g) false ≡ true → Matches (seq f g) []
+    on-both : (x : Bool) → nullable f ≡ x → (nullable f ≡ true → Matches f []) → (nullable g ≡ true → Matches g []) →
+        cond x (nullable g) false ≡ true → Matches (seq f g) []
     on-both true i a b e = is-seq [] [] (a i) (b e)
     on-both false i a b e = absurd (clash e)
 nullable-sound (or f g) e = on-either (nullable f) refl (nullable-sound f) (nullable-sound g) e
   where
-    on-either : (x : Bool) → nullable f ≡ x → (nullable f ≡ true → Matches f []) → (nullable g ≡ true → Matches g []) → cond x true (nullable g) ≡ true → Matches (or f g) []
+    on-either : (x : Bool) → nullable f ≡ x → (nullable f ≡ true → Matches f []) → (nullable g ≡ true → Matches g []) →
+        cond x true (nullable g) ≡ true → Matches (or f g) []
     on-either true i a b e = is-left (a i)
     on-either false i a b e = is-right (b e)
 nullable-sound (many f) e = is-none

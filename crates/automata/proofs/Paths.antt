@@ -51,7 +51,8 @@ module _ {A : Type 0} (shape : A → Shape A) where
   on p q p′ q′ e w v m (r, h, s) = (r, by-move p q p′ q′ (e, r) m h, s)
 
   -- The first state waits for the byte x: the second one moves on until it reads x.
-  await : (p p′ e w : A) (x : ℕ) (u v : Text) → Reads (shape p) x p′ → ((q : A) → Runs shape q (u ++ v) w → Followed p′ q e v w) → (q : A) → Runs shape q (x ∷ (u ++ v)) w → Followed p q e v w
+  await : (p p′ e w : A) (x : ℕ) (u v : Text) → Reads (shape p) x p′ → ((q : A) → Runs shape q (u ++ v) w → Followed p′ q e v w) →
+      (q : A) → Runs shape q (x ∷ (u ++ v)) w → Followed p q e v w
   await p p′ e w x u v m ih q r =
       run-fold shape w (λ q t. t ≡ x ∷ (u ++ v) → Followed p q e v w)
       (λ c. cons-not-nil (sym c))

@@ -37,7 +37,8 @@ goes-reads R (fork q′ q″) q x t m r = absurd m
 goes-reads R (leaf a b q′) q x t m r = (m .0, m .1, subst (λ z. R z t) (m .2) r)
 
 -- What a first move can be: the two above, and no other.
-goes-cases : {A : Type 0} (R : A → Text → Type 0) (s : Shape A) (C : Text → Type 0) → ((q : A) (t : Text) → Silent s q → R q t → C t) → ((q : A) (x : ℕ) (t : Text) → Reads s x q → R q t → C (x ∷ t)) → (t : Text) → Goes s R t → C t
+goes-cases : {A : Type 0} (R : A → Text → Type 0) (s : Shape A) (C : Text → Type 0) → ((q : A) (t : Text) → Silent s q → R q t → C t) →
+    ((q : A) (x : ℕ) (t : Text) → Reads s x q → R q t → C (x ∷ t)) → (t : Text) → Goes s R t → C t
 goes-cases R stop C f g t r = absurd r
 goes-cases R (to q) C f g t r = f q t refl r
 goes-cases R (fork q q′) C f g t (inl r) = f q t (inl refl) r
@@ -58,7 +59,10 @@ module _ {A : Type 0} (shape : A → Shape A) where
   runs-reads p q x t e m r = (suc (r .0), goes-reads (λ z u. Run shape (r .0) z u e) (shape p) q x t m (r .1))
 
   -- Induction on a run, from its end backwards.
-  pub run-fold : (e : A) (P : A → Text → Type 0) → P e [] → ((p q : A) (t : Text) → Silent (shape p) q → Runs shape q t e → P q t → P p t) → ((p q : A) (x : ℕ) (t : Text) → Reads (shape p) x q → Runs shape q t e → P q t → P p (x ∷ t)) → (k : ℕ) (p : A) (t : Text) → Run shape k p t e → P p t
+  pub run-fold : (e : A) (P : A → Text → Type 0) → P e [] →
+      ((p q : A) (t : Text) → Silent (shape p) q → Runs shape q t e → P q t → P p t) →
+      ((p q : A) (x : ℕ) (t : Text) → Reads (shape p) x q → Runs shape q t e → P q t → P p (x ∷ t)) → (k : ℕ) (p : A) (t : Text) →
+      Run shape k p t e → P p t
   run-fold e P none silent reads zero p t r = subst₂ P (sym (r .0)) (sym (r .1)) none
   run-fold e P none silent reads (suc k) p t r =
       goes-cases (λ z u. Run shape k z u e) (shape p) (P p)

@@ -82,7 +82,8 @@ pub data Acts {A : Type 0} (shape : A → Shape A) (ok : A → Type 0) : Form �
   a-none : {n : A} → Acts shape ok empty n n
   a-one : {a b : ℕ} {p n : A} → ok p → shape p ≡ leaf a b n → Acts shape ok (one a b) p n
   a-seq : {f g : Form} {p n : A} (m : A) → Acts shape ok f p m → Acts shape ok g m n → Acts shape ok (seq f g) p n
-  a-or : {f g : Form} {p n : A} (q r : A) → ok p → shape p ≡ fork q r → Acts shape ok f q n → Acts shape ok g r n → Acts shape ok (or f g) p n
+  a-or : {f g : Form} {p n : A} (q r : A) → ok p → shape p ≡ fork q r → Acts shape ok f q n → Acts shape ok g r n →
+      Acts shape ok (or f g) p n
   a-many : {f : Form} {p n : A} (q : A) → ok p → shape p ≡ fork n q → Acts shape ok f q p → Acts shape ok (many f) p n
 
 -- Two runs from p and q meet: stopped at n, both come there with the same text.

@@ -49,7 +49,8 @@ module _ {A : Type 0} (E : A → A → Type 0) where
   after l x b (inl h) = h
   after l x b (inr h) = h .1
 
-  join-off : (l : List A) (x a c b : A) → ((a b : A) → Via l a c → Via l c b → Via l a b) → Via (x ∷ l) a c → Via (x ∷ l) c b → Via (x ∷ l) a b
+  join-off : (l : List A) (x a c b : A) → ((a b : A) → Via l a c → Via l c b → Via l a b) → Via (x ∷ l) a c → Via (x ∷ l) c b →
+      Via (x ∷ l) a b
   join-off l x a c b ih (inl h) (inl k) = inl (ih a b h k)
   join-off l x a c b ih (inl h) (inr k) = inr (ih a x h (k .0), k .1)
   join-off l x a c b ih (inr h) (inl k) = inr (h .0, ih x b (h .1) k)
@@ -72,5 +73,6 @@ module _ {A : Type 0} (E : A → A → Type 0) where
   via-decided same edge (x ∷ l) a b = decided-either (via-decided same edge l a b) (decided-both (via-decided same edge l a x) (via-decided same edge l x b))
 
   -- Equality and edges can be told, and the list has a and, with each node, all that its edges lead to.
-  pub reach-decided : ((a b : A) → Decided (a ≡ b)) → ((a b : A) → Decided (E a b)) → (l : List A) → ((a b : A) → List·Memᴰ a l → E a b → List·Memᴰ b l) → (a b : A) → List·Memᴰ a l → Decided (Reach E a b)
+  pub reach-decided : ((a b : A) → Decided (a ≡ b)) → ((a b : A) → Decided (E a b)) → (l : List A) →
+      ((a b : A) → List·Memᴰ a l → E a b → List·Memᴰ b l) → (a b : A) → List·Memᴰ a l → Decided (Reach E a b)
   reach-decided same edge l kept a b m = elim (via-decided same edge l a b) [ inl h ↦ inl (via-sound l a b h) | inr h ↦ inr (λ k. h (via-complete l kept m k)) ]

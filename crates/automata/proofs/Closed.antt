@@ -5,21 +5,14 @@ use mathlib.Core.List.{List, [], _∷_, _++_, List·Memᴰ, List·Memᴰ·head, 
 use mathlib.Core.Logic.{_⊎_, inl, inr}
 use Prim.Native.Nat.{ℕ}
 use Rattle.lens.specs.Forms.{Text, Form}
-use Rattle.automata.specs.Automaton.{Shape, stop, to, fork, leaf, Runs, Acts, a-pass, a-none, a-one, a-seq, a-or, a-many}
+use Rattle.automata.specs.Automaton.{Shape, stop, to, fork, leaf, Targets, Runs, Acts, a-pass, a-none, a-one, a-seq, a-or, a-many}
 use Rattle.automata.proofs.Runs.{Silent, Reads, runs-none, runs-silent, runs-reads, run-fold}
 
 -- Where a state of this shape can go on next.
 abbrev pub Next : {A : Type 0} → Shape A → A → Type 0
 Next s q = Silent s q ⊎ ((x : ℕ) × Reads s x q)
 
--- S holds of each state that this shape names.
-abbrev Targets : {A : Type 0} → (A → Type 0) → Shape A → Type 0
-Targets S stop = Unit {0}
-Targets S (to q) = S q
-Targets S (fork q r) = S q × S r
-Targets S (leaf a b q) = S q
-
-next-is : {A : Type 0} (S : A → Type 0) (s : Shape A) (r : A) → Targets S s → Next s r → S r
+pub next-is : {A : Type 0} (S : A → Type 0) (s : Shape A) (r : A) → Targets S s → Next s r → S r
 next-is S stop r h (inl m) = absurd m
 next-is S stop r h (inr m) = absurd (m .1)
 next-is S (to q) r h (inl e) = subst S (sym e) h

@@ -8,6 +8,7 @@ pub mod Ended
 pub mod Meet
 pub mod Nullable
 pub mod Cut
+pub mod Coded
 pub mod Lists
 pub mod Decide
 pub mod Stacks

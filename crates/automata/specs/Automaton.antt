@@ -23,6 +23,13 @@ Leaf (to q) = ⊥
 Leaf (fork q r) = ⊥
 Leaf (leaf a b q) = Unit {0}
 
+-- S holds of each state that a state of this shape can go on at.
+abbrev pub Targets : {A : Type 0} → (A → Type 0) → Shape A → Type 0
+Targets S stop = Unit {0}
+Targets S (to q) = S q
+Targets S (fork q r) = S q × S r
+Targets S (leaf a b q) = S q
+
 -- `Run shape k p t e`: from the state p, k moves read the text t and come to the state e.
 abbrev pub Eats : ℕ → ℕ → (Text → Type 0) → Text → Type 0
 Eats a b R [] = ⊥

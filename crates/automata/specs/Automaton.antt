@@ -82,8 +82,8 @@ pub record Bounds {A : Type 0} (at-end : A → Bool) (ok : A → Type 0) (n : A)
   pub found : at-end n ≡ true
   pub passed : (p : A) → ok p → at-end p ≡ false
 
--- `Acts shape ok f p n`: the state p acts as the form f, and then goes on at n. All its states up to n, but
--- not n itself, are ok.
+-- `Acts shape ok f p n`: the state p acts as the form f, and then goes on at n. All its states before n are
+-- ok; that n is not is for `Bounds` to say.
 pub data Acts {A : Type 0} (shape : A → Shape A) (ok : A → Type 0) : Form → A → A → Type 0 where
   a-pass : {f : Form} {p n : A} (q : A) → ok p → shape p ≡ to q → Acts shape ok f q n → Acts shape ok f p n
   a-none : {n : A} → Acts shape ok empty n n

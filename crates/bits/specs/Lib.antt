@@ -1,0 +1,2 @@
+-- A table of bits in words.
+pub mod Bits

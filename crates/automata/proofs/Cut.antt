@@ -9,7 +9,7 @@ use borrow.Author.Tests.{both-ways}
 use Rattle.lens.specs.Forms.{Text, Form, many, Matches}
 use Rattle.lens.specs.Clear.{Cut-once, Parts-once}
 use Rattle.lens.proofs.Texts.{levi}
-use Rattle.reach.proofs.Join.{reach-join}
+use Rattle.reach.proofs.Paths.{reach-join}
 use Rattle.automata.specs.Automaton.{Shape, stop, to, fork, leaf, Leaf, Goes, Run, Runs, ended, Bounds, Acts, Crosses, nullable}
 use Rattle.automata.proofs.Runs.{runs-join}
 use Rattle.automata.proofs.Paths.{path-eats, follow, rest-reads, runs-meet}

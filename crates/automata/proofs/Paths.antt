@@ -6,7 +6,7 @@ use Prim.Native.Nat.{ℕ}
 use Rattle.lens.specs.Forms.{Text}
 use Rattle.lens.proofs.Texts.{cons-not-nil}
 use Rattle.reach.specs.Reach.{here, step}
-use Rattle.reach.proofs.Join.{reach-join}
+use Rattle.reach.proofs.Paths.{reach-join}
 use Rattle.automata.specs.Automaton.{Shape, stop, to, fork, leaf, Leaf, Runs, Reached}
 use Rattle.automata.proofs.Runs.{Reads, runs-none, runs-silent, runs-reads, run-fold}
 use Rattle.automata.proofs.Moves.{Waits, Moved, first, second, both, moves-sound, moves-complete}

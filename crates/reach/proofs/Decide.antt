@@ -4,7 +4,7 @@ use mathlib.Core.Path.{_≡_, refl, subst}
 use mathlib.Core.List.{List, [], _∷_, List·Memᴰ, List·Memᴰ·cases-cons, List·Memᴰ·not-nil}
 use mathlib.Core.Logic.{_⊎_, inl, inr}
 use Rattle.reach.specs.Reach.{Reach, here, step}
-use Rattle.reach.proofs.Join.{reach-join}
+use Rattle.reach.proofs.Paths.{reach-join}
 
 -- It can be told whether P holds.
 abbrev pub Decided : Type 0 → Type 0

@@ -1,0 +1,2 @@
+-- The graphs of the cases.
+pub mod Edges

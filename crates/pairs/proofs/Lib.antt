@@ -1,0 +1,2 @@
+-- What changes to a table leave, and how the search over pairs of states answers.
+pub mod Tables

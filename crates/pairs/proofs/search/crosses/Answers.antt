@@ -1,0 +1,4 @@
+use Rattle.pairs.proofs.search.crosses.Needs as need
+
+pub returns : need.returns
+returns c = ?

@@ -5,7 +5,7 @@ use mathlib.Core.List.{List}
 use Prim.Native.Nat.{ℕ, _+_, _*_, _<_}
 use lib.Dec.{eqb}
 use lib.ListN.{length, getD}
-use Rattle.automata.specs.Automaton.{Shape, stop, to, fork, leaf}
+use Rattle.automata.specs.Automaton.{Shape, stop, to, fork, leaf, Targets}
 use Rattle.pairs.specs.declared.table.Step.{Step}
 use Rattle.pairs.specs.declared.table.Step.the-variants.{Stop, To, Fork, Leaf}
 
@@ -27,10 +27,7 @@ shape (Leaf a b q) = leaf a b q
 
 -- Where a shape goes on is below n.
 abbrev pub Inside : ℕ → Shape ℕ → Type 0
-Inside n stop = Unit {0}
-Inside n (to q) = q < n
-Inside n (fork q r) = (q < n) × (r < n)
-Inside n (leaf a b q) = q < n
+Inside n s = Targets (λ q. q < n) s
 
 -- Every state goes on among the first n states.
 pub record Bounded (n : ℕ) (t : List ℕ) : Type 0 where

@@ -37,7 +37,7 @@ pub(crate) impl<'a> Graph for Pairs<'a> as PairsGraph {
 }
 
 impl<'a> Pairs<'a> {
-    // What a state does, unless it is the end.
+    // What a state does; the end stops.
     pub fn step(&self, state: usize) -> Step
         ensures { λ r. ⌜ shape r ≡ stopped (now (now (self .entry) .table)) (now (self .entry) .«end») state ⌝ }
     {
@@ -64,9 +64,8 @@ impl<'a> Pairs<'a> {
         requires second_small { ⌜ second < 2 ^ 32 ⌝ }
         ensures { λ r. ⌜ listed r ≡ numbered (now (self .entry) .states) first second (stopped (now (now (self .entry) .table)) (now (self .entry) .«end») first) (stopped (now (now (self .entry) .table)) (now (self .entry) .«end») second) ⌝ }
     {
-        let other = self.step(second);
         match self.step(first) {
-            Step::Stop => self.follow(first, other),
+            Step::Stop => self.follow(first, self.step(second)),
             Step::To(next) => Moves::One(self.node(next as usize, second)),
             Step::Fork(next, choice) => {
                 Moves::Two(
@@ -74,7 +73,7 @@ impl<'a> Pairs<'a> {
                     self.node(choice as usize, second),
                 )
             }
-            Step::Leaf(low, high, next) => match other {
+            Step::Leaf(low, high, next) => match self.step(second) {
                 Step::Leaf(from, to, after) => {
                     if low.max(from) <= high.min(to) {
                         Moves::One(self.node(next as usize, after as usize))
@@ -82,7 +81,7 @@ impl<'a> Pairs<'a> {
                         Moves::None
                     }
                 }
-                _ => self.follow(first, other),
+                other => self.follow(first, other),
             },
         }
     }

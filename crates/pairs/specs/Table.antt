@@ -4,7 +4,7 @@ use mathlib.Core.Bool.{cond}
 use mathlib.Core.List.{List}
 use Prim.Native.Nat.{ℕ, _+_, _*_, _<_}
 use lib.Dec.{eqb}
-use lib.ListN.{length, getD}
+use lib.ListN.{getD}
 use Rattle.automata.specs.Automaton.{Shape, stop, to, fork, leaf, Targets}
 use Rattle.pairs.specs.declared.table.Step.{Step}
 use Rattle.pairs.specs.declared.table.Step.the-variants.{Stop, To, Fork, Leaf}

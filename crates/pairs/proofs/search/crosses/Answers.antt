@@ -1,6 +1,13 @@
 use Rattle.pairs.proofs.Crossing.{crosses-decided}
+use Rattle.pairs.proofs.Edges.{bounded-stays}
 use Rattle.pairs.proofs.Meeting.{node-inside}
 use Rattle.pairs.proofs.search.crosses.Needs as need
+
+pub ghost-before : need.ghost-before
+ghost-before c = (c .pre .few, (bounded-stays (c .pre .bounded), tt))
+
+pub ghost-after : need.ghost-after
+ghost-after c = (c .pre .few, (bounded-stays (c .pre .bounded), tt))
 
 pub mark-only-requires : need.mark-only-requires
 mark-only-requires c κs = record {

@@ -1,5 +1,9 @@
+use Rattle.pairs.proofs.Edges.{bounded-stays}
 use Rattle.pairs.proofs.Meeting.{node-inside, meets-decided}
 use Rattle.pairs.proofs.search.meets.Needs as need
+
+pub ghost-pairs : need.ghost-pairs
+ghost-pairs c = (c .pre .few, (bounded-stays (c .pre .bounded), tt))
 
 pub mark-only-requires : need.mark-only-requires
 mark-only-requires c κs = record {

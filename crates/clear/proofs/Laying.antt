@@ -43,6 +43,7 @@ module _ {A B : Type 0} {row : A → List ℕ} {fine : A → Type 0} {row′ : B
   pub laid-both : {s : List ℕ} {at m e : ℕ} (p : A × B) → Stands row fine s at m → Laid (both-row row row′) (both-fine fine fine′) s at e p → Laid row fine s at m (p .0) × Laid row′ fine′ s m e (p .1)
   laid-both {s} {at} {m} {e} p a l =
       let same = one (a .thing) .only (p .0) (drop m s) (row′ (p .1) ++ drop e s) (sym (a .laid) ∙ l .laid ∙ append-assoc (row (p .0)) (row′ (p .1)) (drop e s)) in
-      let long = laid-length row′ s m e (p .1) (a .within) (l .within) (same .1) in
-      (record { sound = l .sound .0; less = a .less; within = a .within; laid = a .laid ∙ ap (λ x. row x ++ drop m s) (same .0) },
-       record { sound = l .sound .1; less = omega (arith, long, some (p .1)); within = l .within; laid = same .1 })
+      let long = laid-length row′ s m e (p .1) (a .within) (l .within) (same .1) in (
+        record { sound = l .sound .0; less = a .less; within = a .within; laid = a .laid ∙ ap (λ x. row x ++ drop m s) (same .0) },
+        record { sound = l .sound .1; less = omega (arith, long, some (p .1)); within = l .within; laid = same .1 },
+      )

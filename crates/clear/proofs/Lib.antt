@@ -8,3 +8,4 @@ pub mod Asking
 pub mod ViewNodes
 pub mod Views
 pub mod Sides
+pub mod Telling

@@ -50,14 +50,16 @@ fills-text {s} {at} {next} {x} {t₀} {t₁} {t₂} a chain c = record {
       let e-is : e ≡ at + suc (length v) = laid-length text-row s at e v (omega (arith, l .less, l .within)) (l .within) (l .laid) in
       let ends : x ≡ e = omega arith in
       let behind : drop (at + 1) s ≡ v ++ drop e s = sym (drop-drop 1 at s) ∙ ap (λ z. drop 1 z) (l .laid) in
-      let last : at + length v ≡ x - 1 = omega arith in
-      (ends, record {
-        acts = acts-text (shape-at t₂) (Within at e) s v (drop e s) at next behind
-            (λ q h h′. c .elsewhere q (λ z. omega arith) ∙ chain .reads q (omega arith))
-            (λ q h h′. omega arith)
-            (rw last (c .here));
-        kept = λ p out. c .elsewhere p (λ z. out (omega arith)) ∙ chain .kept p (λ w. out (omega arith));
-      });
+      let last : at + length v ≡ x - 1 = omega arith in (
+        ends,
+        record {
+          acts = acts-text (shape-at t₂) (Within at e) s v (drop e s) at next behind
+              (λ q h h′. c .elsewhere q (λ z. omega arith) ∙ chain .reads q (omega arith))
+              (λ q h h′. omega arith)
+              (rw last (c .here));
+          kept = λ p out. c .elsewhere p (λ z. out (omega arith)) ∙ chain .kept p (λ w. out (omega arith));
+        },
+      );
 }
 
 pub text-nowhere : {s : List ℕ} {at next : ℕ} {t t′ : List ℕ} → Nowhere text-row Text-fine s at → Text-fills s at next t t′ None

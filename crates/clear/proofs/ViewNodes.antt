@@ -108,7 +108,7 @@ module _ {side : Side} {s : List ℕ} {at m next : ℕ} {t₀ t₁ t₂ t₃ : L
           ends = ends ∙ g .ends;
           filled = filled-seq c (f .filled) (g .filled) h less;
           decides = answered told (decides-three (q₁ .clear) (q₂ .clear) (not b) (f .decides) (g .decides)
-            (decides-cut (shape-at t₃) (λ w. out (omega arith)) (λ w. out (omega arith)) m (λ w. omega arith) (first-acts c (f .filled) (g .filled) h (omega arith) less {start = at + 1} {end = m} (omega arith) (omega arith)) (second-acts c (f .filled) (g .filled) h (omega arith) less {start = m} {end = e} (omega arith) (omega arith)) b crossed));
+              (decides-cut (shape-at t₃) (λ w. out (omega arith)) (λ w. out (omega arith)) m (λ w. omega arith) (first-acts c (f .filled) (g .filled) h (omega arith) less {start = at + 1} {end = m} (omega arith) (omega arith)) (second-acts c (f .filled) (g .filled) h (omega arith) less {start = m} {end = e} (omega arith) (omega arith)) b crossed));
         };
   }
 
@@ -123,7 +123,7 @@ module _ {side : Side} {s : List ℕ} {at m next : ℕ} {t₀ t₁ t₂ t₃ : L
           ends = ends ∙ g .ends;
           filled = filled-turned c (f .filled) (g .filled) h less;
           decides = answered told (decides-three (q₁ .clear) (q₂ .clear) (not b) (f .decides) (g .decides)
-            (decides-cut (shape-at t₃) (λ w. out (omega arith)) (λ w. out (omega arith)) (at + 1) (λ w. omega arith) (second-acts c (f .filled) (g .filled) h (omega arith) less {start = m} {end = e} (omega arith) (omega arith)) (first-acts c (f .filled) (g .filled) h (omega arith) less {start = at + 1} {end = m} (omega arith) (omega arith)) b crossed));
+              (decides-cut (shape-at t₃) (λ w. out (omega arith)) (λ w. out (omega arith)) (at + 1) (λ w. omega arith) (second-acts c (f .filled) (g .filled) h (omega arith) less {start = m} {end = e} (omega arith) (omega arith)) (first-acts c (f .filled) (g .filled) h (omega arith) less {start = at + 1} {end = m} (omega arith) (omega arith)) b crossed));
         };
   }
 
@@ -137,7 +137,7 @@ module _ {side : Side} {s : List ℕ} {at m next : ℕ} {t₀ t₁ t₂ t₃ : L
           ends = ends ∙ g .ends;
           filled = filled-or c (f .filled) (g .filled) h less;
           decides = answered told (decides-three (q₁ .clear) (q₂ .clear) (not b) (f .decides) (g .decides)
-            (decides-apart (shape-at t₃) (λ w. out (omega arith)) (λ w. out (omega arith)) (first-acts c (f .filled) (g .filled) h (omega arith) less {start = at + 1} {end = m} (omega arith) (omega arith)) (second-acts c (f .filled) (g .filled) h (omega arith) less {start = m} {end = e} (omega arith) (omega arith)) b met));
+              (decides-apart (shape-at t₃) (λ w. out (omega arith)) (λ w. out (omega arith)) (first-acts c (f .filled) (g .filled) h (omega arith) less {start = at + 1} {end = m} (omega arith) (omega arith)) (second-acts c (f .filled) (g .filled) h (omega arith) less {start = m} {end = e} (omega arith) (omega arith)) b met));
         };
   }
 
@@ -151,6 +151,6 @@ finds-parts {at = at} {t₂ = t₂} {q₁ = q₁} {a = a} {b = b} ends told c bo
         ends = ends ∙ f .ends;
         filled = whole;
         decides = answered told (decides-and (q₁ .clear) (not a && not b) (f .decides)
-          (decides-parts (shape-at t₂) (λ w. out (omega arith)) out at (λ w. omega arith) (f .filled .acts) (whole .acts) a b none crossed));
+            (decides-parts (shape-at t₂) (λ w. out (omega arith)) out at (λ w. omega arith) (f .filled .acts) (whole .acts) a b none crossed));
       };
 }

@@ -82,7 +82,14 @@ fn fill_text(row: &[u8], at: usize, next: usize, table: &mut [u32]) -> Option<us
 }
 
 // Lays one side of the view at `at`.
-pub(crate) fn fill_view(row: &[u8], at: usize, next: usize, side: Side, table: &mut [u32], room: &mut [u32]) -> Option<Finding>
+pub(crate) fn fill_view(
+    row: &[u8],
+    at: usize,
+    next: usize,
+    side: Side,
+    table: &mut [u32],
+    room: &mut [u32],
+) -> Option<Finding>
     requires short { ⌜ length (now row) ≤ 1024 ⌝ }
     requires table_long { ⌜ 4 * length (now row) ≤ length (now table) ⌝ }
     requires next_inside { ⌜ next ≤ length (now row) ⌝ }
@@ -129,11 +136,21 @@ fn fill_copy(row: &[u8], at: usize, next: usize, table: &mut [u32]) -> Option<Fi
     let form = at + 1;
     put_step(table, at, Step::To(form as u32));
     let end = fill_form(row, form, next, table)?;
-    Some(Finding { end, clear: true, visited: 0 })
+    Some(Finding {
+        end,
+        clear: true,
+        visited: 0,
+    })
 }
 
 // hide, as its sources stand: its form; the text for a new source has to be of it.
-fn fill_hidden(row: &[u8], at: usize, next: usize, table: &mut [u32], room: &mut [u32]) -> Option<Finding>
+fn fill_hidden(
+    row: &[u8],
+    at: usize,
+    next: usize,
+    table: &mut [u32],
+    room: &mut [u32],
+) -> Option<Finding>
     requires short { ⌜ length (now row) ≤ 1024 ⌝ }
     requires table_long { ⌜ 4 * length (now row) ≤ length (now table) ⌝ }
     requires next_inside { ⌜ next ≤ length (now row) ⌝ }
@@ -150,7 +167,11 @@ fn fill_hidden(row: &[u8], at: usize, next: usize, table: &mut [u32], room: &mut
     let _ = fill_form(row, form, next, table)?;
     let end = fill_text(row, fresh, next, table)?;
     let fits = meets(table, row.len() + 1, fresh, form, next, room);
-    Some(Finding { end, clear: fits.yes, visited: fits.visited })
+    Some(Finding {
+        end,
+        clear: fits.yes,
+        visited: fits.visited,
+    })
 }
 
 // hide, as its looks stand: the text that it shows.
@@ -168,11 +189,23 @@ fn fill_literal(row: &[u8], at: usize, next: usize, table: &mut [u32]) -> Option
     let end = part_end(row, fresh, Kind::Text)?;
     put_step(table, at, Step::To(shown as u32));
     let _ = fill_text(row, shown, next, table)?;
-    Some(Finding { end, clear: true, visited: 0 })
+    Some(Finding {
+        end,
+        clear: true,
+        visited: 0,
+    })
 }
 
 // Two views, one after the other as they stand in the row.
-fn fill_series(row: &[u8], at: usize, second: usize, next: usize, side: Side, table: &mut [u32], room: &mut [u32]) -> Option<Finding>
+fn fill_series(
+    row: &[u8],
+    at: usize,
+    second: usize,
+    next: usize,
+    side: Side,
+    table: &mut [u32],
+    room: &mut [u32],
+) -> Option<Finding>
     requires short { ⌜ length (now row) ≤ 1024 ⌝ }
     requires table_long { ⌜ 4 * length (now row) ≤ length (now table) ⌝ }
     requires next_inside { ⌜ next ≤ length (now row) ⌝ }
@@ -192,12 +225,23 @@ fn fill_series(row: &[u8], at: usize, second: usize, next: usize, side: Side, ta
     Some(Finding {
         end: back.end,
         clear: front.clear & back.clear & !crossed.yes,
-        visited: front.visited.saturating_add(back.visited).saturating_add(crossed.visited),
+        visited: front
+            .visited
+            .saturating_add(back.visited)
+            .saturating_add(crossed.visited),
     })
 }
 
 // Two views of which the second one's texts come first, as the looks of swap do.
-fn fill_turned(row: &[u8], at: usize, second: usize, next: usize, side: Side, table: &mut [u32], room: &mut [u32]) -> Option<Finding>
+fn fill_turned(
+    row: &[u8],
+    at: usize,
+    second: usize,
+    next: usize,
+    side: Side,
+    table: &mut [u32],
+    room: &mut [u32],
+) -> Option<Finding>
     requires short { ⌜ length (now row) ≤ 1024 ⌝ }
     requires table_long { ⌜ 4 * length (now row) ≤ length (now table) ⌝ }
     requires next_inside { ⌜ next ≤ length (now row) ⌝ }
@@ -217,12 +261,22 @@ fn fill_turned(row: &[u8], at: usize, second: usize, next: usize, side: Side, ta
     Some(Finding {
         end: front.end,
         clear: back.clear & front.clear & !crossed.yes,
-        visited: back.visited.saturating_add(front.visited).saturating_add(crossed.visited),
+        visited: back.visited
+            .saturating_add(front.visited)
+            .saturating_add(crossed.visited),
     })
 }
 
 // One of two views.
-fn fill_choice(row: &[u8], at: usize, second: usize, next: usize, side: Side, table: &mut [u32], room: &mut [u32]) -> Option<Finding>
+fn fill_choice(
+    row: &[u8],
+    at: usize,
+    second: usize,
+    next: usize,
+    side: Side,
+    table: &mut [u32],
+    room: &mut [u32],
+) -> Option<Finding>
     requires short { ⌜ length (now row) ≤ 1024 ⌝ }
     requires table_long { ⌜ 4 * length (now row) ≤ length (now table) ⌝ }
     requires next_inside { ⌜ next ≤ length (now row) ⌝ }
@@ -242,12 +296,21 @@ fn fill_choice(row: &[u8], at: usize, second: usize, next: usize, side: Side, ta
     Some(Finding {
         end: right.end,
         clear: left.clear & right.clear & !both.yes,
-        visited: left.visited.saturating_add(right.visited).saturating_add(both.visited),
+        visited: left.visited
+            .saturating_add(right.visited)
+            .saturating_add(both.visited),
     })
 }
 
 // Any number of parts of one view, none of them empty.
-fn fill_parts(row: &[u8], at: usize, next: usize, side: Side, table: &mut [u32], room: &mut [u32]) -> Option<Finding>
+fn fill_parts(
+    row: &[u8],
+    at: usize,
+    next: usize,
+    side: Side,
+    table: &mut [u32],
+    room: &mut [u32],
+) -> Option<Finding>
     requires short { ⌜ length (now row) ≤ 1024 ⌝ }
     requires table_long { ⌜ 4 * length (now row) ≤ length (now table) ⌝ }
     requires next_inside { ⌜ next ≤ length (now row) ⌝ }
@@ -265,6 +328,8 @@ fn fill_parts(row: &[u8], at: usize, next: usize, side: Side, table: &mut [u32],
     Some(Finding {
         end: body.end,
         clear: body.clear & (!empty.yes & !crossed.yes),
-        visited: body.visited.saturating_add(empty.visited).saturating_add(crossed.visited),
+        visited: body.visited
+            .saturating_add(empty.visited)
+            .saturating_add(crossed.visited),
     })
 }

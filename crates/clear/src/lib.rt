@@ -4,5 +4,8 @@ mod fill;
 mod side;
 mod verdict;
 
+pub use side::Side;
+pub use side::SideDebug;
+pub use side::SidePartialEq;
 pub use verdict::Verdict;
 pub use verdict::is_clear;

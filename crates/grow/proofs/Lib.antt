@@ -1,0 +1,5 @@
+-- How trees grow, node by node, and what stands behind each node.
+pub mod Growing
+pub mod Parts
+pub mod Texts
+pub mod EachKind

@@ -1,6 +1,6 @@
 -- The automaton whose states are stacks of forms, what the rest of a text must be one after the other: it acts
 -- as every form. Stacks can be told apart. Not here: what is told by it (Told).
-use mathlib.Core.Path.{_≡_, refl, sym, _∙_, ap, ap₂}
+use mathlib.Core.Path.{_≡_, refl}
 use mathlib.Core.Bool.{Bool}
 use mathlib.Core.List.{List, [], _∷_, List-discrete}
 use mathlib.Core.Logic.{inl, inr}
@@ -10,7 +10,7 @@ use native.Mathlib.Omega.{arith}
 use lib.Dec.{leb}
 use lib.ListN.{length}
 use borrow.Author.Tests.{le-leb, lt-leb}
-use Rattle.lens.specs.Forms.{Form, empty, one, seq, or, many}
+use Rattle.lens.specs.Forms.{Form, Form-discrete, empty, one, seq, or, many}
 use Rattle.reach.proofs.Decide.{Decided}
 use Rattle.automata.specs.Automaton.{Shape, stop, to, fork, leaf, Bounds, Acts, a-pass, a-none, a-one, a-seq, a-or, a-many}
 
@@ -43,39 +43,6 @@ stack-acts k (seq f g) σ l = a-pass (f ∷ g ∷ σ) (omega arith) refl (a-seq 
 stack-acts k (or f g) σ l = a-or (f ∷ σ) (g ∷ σ) (omega arith) refl (stack-acts k f σ l) (stack-acts k g σ l)
 stack-acts k (many f) σ l = a-many (f ∷ many f ∷ σ) (omega arith) refl (stack-acts k f (many f ∷ σ) (omega arith))
 
--- Equality of stacks, by a copy of the forms that has it.
-data Copy : Type 0 where
-  empty′ : Copy
-  one′ : ℕ → ℕ → Copy
-  seq′ : Copy → Copy → Copy
-  or′ : Copy → Copy → Copy
-  many′ : Copy → Copy
-  deriving Discrete as Copy-discrete
-
-copied : Form → Copy
-copied empty = empty′
-copied (one a b) = one′ a b
-copied (seq f g) = seq′ (copied f) (copied g)
-copied (or f g) = or′ (copied f) (copied g)
-copied (many f) = many′ (copied f)
-
-original : Copy → Form
-original empty′ = empty
-original (one′ a b) = one a b
-original (seq′ f g) = seq (original f) (original g)
-original (or′ f g) = or (original f) (original g)
-original (many′ f) = many (original f)
-
-original-copied : (f : Form) → original (copied f) ≡ f
-unfolding original copied
-original-copied empty = refl
-original-copied (one a b) = refl
-original-copied (seq f g) = ap₂ seq (original-copied f) (original-copied g)
-original-copied (or f g) = ap₂ or (original-copied f) (original-copied g)
-original-copied (many f) = ap many (original-copied f)
-
-form-discrete : Discrete Form
-form-discrete f g = elim (Copy-discrete ℕ-discrete (copied f) (copied g)) [ yes e ↦ yes (sym (original-copied f) ∙ ap original e ∙ original-copied g) | no h ↦ no (λ e. h (ap copied e)) ]
-
+-- Equality of stacks
 pub stack-decided : (σ τ : Stack) → Decided (σ ≡ τ)
-stack-decided σ τ = elim (List-discrete form-discrete σ τ) [ yes e ↦ inl e | no h ↦ inr h ]
+stack-decided σ τ = elim (List-discrete (Form-discrete ℕ-discrete) σ τ) [ yes e ↦ inl e | no h ↦ inr h ]

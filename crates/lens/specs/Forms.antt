@@ -15,6 +15,7 @@ pub data Form : Type 0 where
   seq : Form → Form → Form
   or : Form → Form → Form
   many : Form → Form
+  deriving Discrete as Form-discrete
 
 -- `Matches f u`: the text u is of the form f. A value is one way to cut u into the parts that f names.
 pub data Matches : Form → Text → Type 0 where

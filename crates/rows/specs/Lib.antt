@@ -4,3 +4,4 @@ pub mod Stands
 pub mod Parts
 pub mod Nodes
 pub mod Reads
+pub mod Cases

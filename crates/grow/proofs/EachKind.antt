@@ -1,12 +1,12 @@
 -- Each kind of node of a form and of a view, and the whole row.
 use mathlib.Core.Path.{_≡_, refl, sym, ap, subst, _∙_}
 use mathlib.Core.List.{List, _++_, append-nil}
-use Prim.Native.Nat.{ℕ, _<_}
+use Prim.Native.Nat.{ℕ, _+_, _<_}
 use native.Mathlib.Omega.{arith}
 use lib.ListN.{length}
 use lib.Seq.{drop-length}
-use Rattle.lens.specs.Forms.{Form, empty, one, seq, or, many}
-use Rattle.lens.specs.Views.{View, then, either, each, copy}
+use Rattle.lens.specs.Forms.{Form, empty, one}
+use Rattle.lens.specs.Views.{View}
 use Rattle.rows.specs.Rows.{form-row, view-row, Form-fine, View-fine, Encodes}
 use Rattle.rows.specs.Stands.{Stands, Heads}
 use Rattle.rows.specs.Nodes.{Tagged}
@@ -14,22 +14,23 @@ use Rattle.rows.proofs.Tags.{builds-seq, builds-or, builds-many, builds-copy, b
 use Rattle.rows.proofs.Unique.{splits-form, splits-view}
 use Rattle.clear.specs.declared.side.Side.{Side}
 use Rattle.clear.specs.declared.side.Side.the-variants.{Source, Look}
-use Rattle.clear.specs.Sides.{side-form}
 use Rattle.clear.specs.Filled.{Laid}
 use Rattle.clear.proofs.Laying.{laid-heads}
 use Rattle.clear.proofs.Lengths.{form-long, view-long}
 use Rattle.trees.specs.declared.nodes.Node.{Node}
 use Rattle.trees.specs.declared.nodes.Node.the-variants.{Empty, One, Seq, Or, Many, Same}
 use Rattle.trees.specs.Nodes.{node-at, Changed}
-use Rattle.trees.specs.Tree.{Grows, grows-empty, grows-one}
-use Rattle.grow.specs.Grown.{Bare, Linked-at, Grown, Form-grows, View-grows, Tree-of, swapped}
+use Rattle.trees.specs.Tree.{Grows, grows-empty, grows-one, grows-seq, grows-or, grows-many}
+use Rattle.grow.specs.Grown.{Bare, Linked-at, Rooted, Grown, Form-grows, View-grows, Tree-of, swapped}
+use Rattle.grow.specs.Planted.{Planted, planted-copy, planted-then, planted-swap, planted-turned, planted-either, planted-each}
+use Rattle.grow.proofs.Planting.{planted-grows}
 use Rattle.grow.proofs.Growing.{linked-made, grown-leaf, joins-seq, joins-turned, joins-or, wraps-same, wraps-many}
 use Rattle.grow.proofs.Parts.{two-grow, one-grows}
 
 -- Forms
 leaf-grows : {s : List ℕ} {at top : ℕ} {t t′ : List ℕ} (f : Form) (made : Node) → ((words : List ℕ) → node-at words at ≡ made → Grows words at f × Linked-at (length s) words at) → Heads s at (form-row f) → Changed t t′ at made top → Form-grows s at top t t′
 leaf-grows {s} {at} {top} {t} {t′} f made leaf h c = record {
-  grown = λ g e l bare. subst (λ z. Grown (length s) t t′ at e top z) (sym (laid-heads f (splits-form f) h l .0)) (grown-leaf made leaf c bare (l .less));
+  grown = λ g e l bare. subst (λ z. Grown (length s) t t′ at e top (λ words q. Grows words q z)) (sym (laid-heads f (splits-form f) h l .0)) (grown-leaf made leaf c bare (l .less));
 }
 
 pub form-empty : {s : List ℕ} {at top : ℕ} {t t′ : List ℕ} → Heads s at (form-row empty) → Changed t t′ at Empty top → Form-grows s at top t t′
@@ -40,49 +41,32 @@ form-one {a = a} {b = b} = leaf-grows (one a b) (One a b) (λ words is. (grows-o
 
 module _ {s : List ℕ} {at i top : ℕ} {t₀ t₁ t₂ : List ℕ} where
   pub form-seq : {m : ℕ} {t₃ : List ℕ} → Tagged s at 2 i → Stands form-row Form-fine s i m → Changed t₀ t₁ at (Seq i m) top → Form-grows s i at t₁ t₂ → Form-grows s m at t₂ t₃ → Form-grows s at top t₀ t₃
-  form-seq = two-grow (λ f. f) splits-form form-long builds-seq joins-seq (λ f g. refl)
+  form-seq = two-grow splits-form form-long builds-seq joins-seq (λ t q m f g m-is here a b. grows-seq (q + 1) m here a b)
 
   pub form-or : {m : ℕ} {t₃ : List ℕ} → Tagged s at 3 i → Stands form-row Form-fine s i m → Changed t₀ t₁ at (Or i m) top → Form-grows s i at t₁ t₂ → Form-grows s m at t₂ t₃ → Form-grows s at top t₀ t₃
-  form-or = two-grow (λ f. f) splits-form form-long builds-or joins-or (λ f g. refl)
+  form-or = two-grow splits-form form-long builds-or joins-or (λ t q m f g m-is here a b. grows-or (q + 1) m here a b)
 
   pub form-many : Tagged s at 4 i → Changed t₀ t₁ at (Many i) top → Form-grows s i at t₁ t₂ → Form-grows s at top t₀ t₂
-  form-many = one-grows (λ f. f) (λ f. f) form-long builds-many wraps-many (λ f. refl)
-
--- The form of a side, for the views that have the same nodes on both sides
-copy-form : (side : Side) (f : Form) → f ≡ side-form side (copy f)
-copy-form Source f = refl
-copy-form Look f = refl
-
-then-form : (side : Side) (k l : View) → seq (side-form side k) (side-form side l) ≡ side-form side (then k l)
-then-form Source k l = refl
-then-form Look k l = refl
-
-either-form : (side : Side) (k l : View) → or (side-form side k) (side-form side l) ≡ side-form side (either k l)
-either-form Source k l = refl
-either-form Look k l = refl
-
-each-form : (side : Side) (l : View) → many (side-form side l) ≡ side-form side (each l)
-each-form Source l = refl
-each-form Look l = refl
+  form-many = one-grows form-long builds-many wraps-many (λ t q f here a. grows-many (q + 1) here a)
 
 -- Views
 module _ (side : Side) {s : List ℕ} {at i top : ℕ} {t₀ t₁ t₂ : List ℕ} where
   pub view-copy : Tagged s at 10 i → Changed t₀ t₁ at (Same i) top → Form-grows s i at t₁ t₂ → View-grows side s at top t₀ t₂
-  view-copy = one-grows (λ f. f) (side-form side) form-long builds-copy wraps-same (copy-form side)
+  view-copy = one-grows form-long builds-copy wraps-same (λ t q f here a. planted-copy here a)
 
   pub view-then : {m : ℕ} {t₃ : List ℕ} → Tagged s at 12 i → Stands view-row View-fine s i m → Changed t₀ t₁ at (Seq i m) top → View-grows side s i at t₁ t₂ → View-grows side s m at t₂ t₃ → View-grows side s at top t₀ t₃
-  view-then = two-grow (side-form side) splits-view view-long builds-then joins-seq (then-form side)
+  view-then = two-grow splits-view view-long builds-then joins-seq (λ t q m k l m-is here a b. planted-then m m-is here a b)
 
   pub view-either : {m : ℕ} {t₃ : List ℕ} → Tagged s at 14 i → Stands view-row View-fine s i m → Changed t₀ t₁ at (Or i m) top → View-grows side s i at t₁ t₂ → View-grows side s m at t₂ t₃ → View-grows side s at top t₀ t₃
-  view-either = two-grow (side-form side) splits-view view-long builds-either joins-or (either-form side)
+  view-either = two-grow splits-view view-long builds-either joins-or (λ t q m k l m-is here a b. planted-either m m-is here a b)
 
   pub view-each : Tagged s at 15 i → Changed t₀ t₁ at (Many i) top → View-grows side s i at t₁ t₂ → View-grows side s at top t₀ t₂
-  view-each = one-grows (side-form side) (side-form side) view-long builds-each wraps-many (each-form side)
+  view-each = one-grows view-long builds-each wraps-many (λ t q l here a. planted-each here a)
 
 -- The looks of a swap stand in the other order.
 pub view-swap : (side : Side) {s : List ℕ} {at i m top : ℕ} {t₀ t₁ t₂ t₃ : List ℕ} → Tagged s at 13 i → Stands view-row View-fine s i m → Changed t₀ t₁ at (swapped side i m) top → View-grows side s i at t₁ t₂ → View-grows side s m at t₂ t₃ → View-grows side s at top t₀ t₃
-view-swap Source = two-grow (side-form Source) splits-view view-long builds-swap joins-seq (λ k l. refl)
-view-swap Look = two-grow (side-form Look) splits-view view-long builds-swap joins-turned (λ k l. refl)
+view-swap Source = two-grow splits-view view-long builds-swap joins-seq (λ t q m k l m-is here a b. planted-swap m m-is here a b)
+view-swap Look = two-grow splits-view view-long builds-swap joins-turned (λ t q m k l m-is here a b. planted-turned m m-is here a b)
 
 -- The view that the bytes say stands from their beginning to their end.
 laid-row : {s : List ℕ} {v : View} → Encodes s v → Laid view-row View-fine s 0 (length s) v
@@ -94,9 +78,11 @@ laid-row {s} {v} e = record {
 }
 
 pub tree-grown : {side : Side} {s t t′ : List ℕ} {top : ℕ} → Bare t 0 (length s) → View-grows side s 0 top t t′ → Tree-of side s t′
-tree-grown {t′ = t′} bare g = record {
-  grows = λ v e. g .grown v _ (laid-row e) bare .rooted t′ (λ p w. record { node = refl; up = refl }) .grows;
-  linked = λ v e.
-      let whole = g .grown v _ (laid-row e) bare .rooted t′ (λ p w. record { node = refl; up = refl }) in
-      record { parts = λ q l. whole .linked q (omega arith) .parts; two = λ q x y l. whole .linked q (omega arith) .two x y };
+tree-grown {side} {s} {t} {t′} {top} bare g = record {
+  grows = λ v e. planted-grows t′ side 0 v (whole v e .tree);
+  planted = λ v e. whole v e .tree;
+  linked = λ v e. record { parts = λ q l. whole v e .linked q (omega arith) .parts; two = λ q x y l. whole v e .linked q (omega arith) .two x y };
 }
+  where
+    whole : (v : View) → Encodes s v → Rooted (length s) t′ 0 (length s) top (λ words q. Planted words side q v)
+    whole v e = g .grown v _ (laid-row e) bare .rooted t′ (λ p w. record { node = refl; up = refl })

@@ -85,9 +85,9 @@ module _ {s : List ℕ} {at x top above : ℕ} {t₀ t₁ t₂ : List ℕ} (a : 
         | no l ↦ let is : x - 1 ≡ q = omega arith in subst (Linked-at (length s) t) is (linked-made Empty last-there tt (λ y z e. let n : _≡_ {A = ℕ} 0 1 = cc in absurd (omega arith)))
       ]
 
-  rooted-text : (v : Text) (rest : List ℕ) → drop (at + 1) s ≡ v ++ rest → at + length v ≡ x - 1 → Rooted (length s) t at x top (exactly v)
+  rooted-text : (v : Text) (rest : List ℕ) → drop (at + 1) s ≡ v ++ rest → at + length v ≡ x - 1 → Rooted (length s) t at x top (λ words q. Grows words q (exactly v))
   rooted-text v rest behind last = record {
-    grows = grows-text t s v rest at behind (λ q h l. reads-there q h (omega arith)) (rw last last-there);
+    tree = grows-text t s v rest at behind (λ q h l. reads-there q h (omega arith)) (rw last last-there);
     under = ups-there at (omega arith) (a .less) .first refl;
     linked = linked-there;
   }
@@ -99,7 +99,7 @@ text-grows {s} {at} {x} {top} {above} {t₀} {t₁} {t₂} a chain c = record {
       let less : at < x = a .less in
       let e-is : e ≡ at + suc (length v) = laid-length text-row s at e v (omega (arith, l .less, l .within)) (l .within) (l .laid) in
       let behind : drop (at + 1) s ≡ v ++ drop e s = sym (drop-drop 1 at s) ∙ ap (λ z. drop 1 z) (l .laid) in
-      subst (λ z. Grown (length s) t₀ t₂ at z top (exactly v)) ends
+      subst (λ z. Grown (length s) t₀ t₂ at z top (λ t q. Grows t q (exactly v))) ends
       (record {
         kept = λ p out. after (chain .kept p (λ w. out (omega arith))) (beside c p (λ z. out (omega arith)));
         rooted = λ t same. rooted-text a chain c t same v (drop e s) behind (omega arith);

@@ -4,8 +4,8 @@ use mathlib.Core.List.{List}
 use mathlib.Core.Logic.{_≢_}
 use Prim.Native.Nat.{ℕ, _+_}
 use lib.ListN.{length}
-use Rattle.lens.specs.Forms.{Form, exactly}
-use Rattle.lens.specs.Views.{View}
+use Rattle.lens.specs.Forms.{exactly}
+use Rattle.lens.specs.Views.{View, hide}
 use Rattle.rows.specs.Rows.{form-row, text-row, view-row, Form-fine, Text-fine, View-fine, Encodes}
 use Rattle.rows.proofs.Tags.{hidden-row, Hidden-fine}
 use Rattle.clear.specs.declared.side.Side.{Side}
@@ -16,6 +16,7 @@ use Rattle.trees.specs.declared.nodes.Node.{Node}
 use Rattle.trees.specs.declared.nodes.Node.the-variants.{None, Seq}
 use Rattle.trees.specs.Nodes.{node-at, up-at, Each-part, Under, Linked}
 use Rattle.trees.specs.Tree.{Grows}
+use Rattle.grow.specs.Planted.{Planted}
 
 -- The place p has the same node and the same parent in both.
 pub record Alike (t t′ : List ℕ) (p : ℕ) : Type 0 where
@@ -31,34 +32,34 @@ pub record Linked-at (n : ℕ) (t : List ℕ) (q : ℕ) : Type 0 where
   pub parts : Each-part (Under n t q) (node-at t q)
   pub two : (x y : ℕ) → node-at t q ≡ Seq x y → x ≢ y
 
--- A tree of the form f stands at `at`, below the node at `top`, and all places from `at` to e are linked.
-pub record Rooted (n : ℕ) (t : List ℕ) (at e top : ℕ) (f : Form) : Type 0 where
-  pub grows : Grows t at f
+-- A tree of which T holds stands at `at`, below the node at `top`, and all places from `at` to e are linked.
+pub record Rooted (n : ℕ) (t : List ℕ) (at e top : ℕ) (T : List ℕ → ℕ → Type 0) : Type 0 where
+  pub tree : T t at
   pub under : up-at t at ≡ top
   pub linked : (q : ℕ) → Within at e q → Linked-at n t q
 
 -- Between t and t′ such a tree has grown: it stands wherever the places from `at` to e are as in t′; all other places
 -- are as they were.
-pub record Grown (n : ℕ) (t t′ : List ℕ) (at e top : ℕ) (f : Form) : Type 0 where
+pub record Grown (n : ℕ) (t t′ : List ℕ) (at e top : ℕ) (T : List ℕ → ℕ → Type 0) : Type 0 where
   pub kept : (p : ℕ) → (Within at e p → ⊥) → Alike t t′ p
-  pub rooted : (t″ : List ℕ) → ((p : ℕ) → Within at e p → Alike t′ t″ p) → Rooted n t″ at e top f
+  pub rooted : (t″ : List ℕ) → ((p : ℕ) → Within at e p → Alike t′ t″ p) → Rooted n t″ at e top T
 
--- Whatever stands in the row s from `behind` on, its form has grown at `at`, if no node stood there.
-pub record Part-grows {A : Type 0} (row : A → List ℕ) (fine : A → Type 0) (form : A → Form) (s : List ℕ) (at behind top : ℕ) (t t′ : List ℕ) : Type 0 where
-  pub grown : (x : A) (e : ℕ) → Laid row fine s behind e x → Bare t at e → Grown (length s) t t′ at e top (form x)
+-- Whatever stands in the row s from `behind` on, its tree has grown at `at`, if no node stood there.
+pub record Part-grows {A : Type 0} (row : A → List ℕ) (fine : A → Type 0) (T : A → List ℕ → ℕ → Type 0) (s : List ℕ) (at behind top : ℕ) (t t′ : List ℕ) : Type 0 where
+  pub grown : (x : A) (e : ℕ) → Laid row fine s behind e x → Bare t at e → Grown (length s) t t′ at e top (T x)
 
 abbrev pub Form-grows : List ℕ → ℕ → ℕ → List ℕ → List ℕ → Type 0
-Form-grows s at = Part-grows form-row Form-fine (λ f. f) s at at
+Form-grows s at = Part-grows form-row Form-fine (λ f t q. Grows t q f) s at at
 
 abbrev pub Text-grows : List ℕ → ℕ → ℕ → List ℕ → List ℕ → Type 0
-Text-grows s at = Part-grows text-row Text-fine exactly s at at
+Text-grows s at = Part-grows text-row Text-fine (λ v t q. Grows t q (exactly v)) s at at
 
 abbrev pub View-grows : Side → List ℕ → ℕ → ℕ → List ℕ → List ℕ → Type 0
-View-grows side s at = Part-grows view-row View-fine (side-form side) s at at
+View-grows side s at = Part-grows view-row View-fine (λ v t q. Planted t side q v) s at at
 
--- The text that is shown, of the form and the two texts behind a hide.
+-- The looks of a hide, of the form and the two texts behind it.
 abbrev pub Shown-grows : List ℕ → ℕ → ℕ → List ℕ → List ℕ → Type 0
-Shown-grows s at = Part-grows hidden-row Hidden-fine (λ p. exactly (p .1 .0)) s at (at + 1)
+Shown-grows s at = Part-grows hidden-row Hidden-fine (λ p t q. Planted t Look q (hide (p .0) (p .1 .0) (p .1 .1))) s at (at + 1)
 
 -- The node of a swap: its looks stand in the other order than its sources.
 abbrev pub swapped : Side → ℕ → ℕ → Node
@@ -69,4 +70,5 @@ swapped Look x y = Seq y x
 -- as the row has bytes.
 pub record Tree-of (side : Side) (s t : List ℕ) : Type 0 where
   pub grows : (v : View) → Encodes s v → Grows t 0 (side-form side v)
+  pub planted : (v : View) → Encodes s v → Planted t side 0 v
   pub linked : (v : View) → Encodes s v → Linked (length s) t

@@ -12,7 +12,7 @@ use Rattle.trees.specs.declared.nodes.Node.the-variants.{Seq, Or, Many, Same}
 use Rattle.trees.specs.Nodes.{node-at}
 use Rattle.trees.specs.Tree.{Grows}
 
--- `Planted side t at v`: the tree t has the view v at the place `at`, and its parts at their places of the row. The looks
+-- `Planted t side at v`: the tree t has the view v at the place `at`, and its parts at their places of the row. The looks
 -- of swap stand in the other order; a hide has its form on the sources' side, and the text that it shows on the other.
 pub data Planted (t : List ℕ) : Side → ℕ → View → Type 0 where
   planted-copy : {side : Side} {at : ℕ} {f : Form} → node-at t at ≡ Same (at + 1) → Grows t (at + 1) f → Planted t side at (copy f)

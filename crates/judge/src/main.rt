@@ -50,16 +50,25 @@ fn run(rt: &LibcRuntime) -> Result<(), Refusal> {
     match first.as_str() {
         "--help" => Ok(rt.println(HELP)?),
         "--version" => Ok(rt.println("judge 0.1.0")?),
-        "--row" => one_file(rt, args.next(), Task::Row),
-        "--bytes" => one_file(rt, args.next(), Task::Bytes),
-        _ => one_file(rt, Some(first), Task::Judge),
+        "--row" => one_file(rt, args.next(), args.next(), Task::Row),
+        "--bytes" => one_file(rt, args.next(), args.next(), Task::Bytes),
+        _ => one_file(rt, Some(first), args.next(), Task::Judge),
     }
 }
 
-fn one_file(rt: &LibcRuntime, path: Option<String>, task: Task) -> Result<(), Refusal> {
+// Does the task with the one file that it is given; a name that begins with -- is no file's.
+fn one_file(
+    rt: &LibcRuntime,
+    path: Option<String>,
+    more: Option<String>,
+    task: Task,
+) -> Result<(), Refusal> {
     let Some(path) = path else {
         return Err(Refusal::Usage(USAGE));
     };
+    if more.is_some() || path.as_str().starts_with("--") {
+        return Err(Refusal::Usage(USAGE));
+    }
     let bytes = match fs::read(rt, path.as_str()) {
         Ok(bytes) => bytes,
         Err(error) => return Err(Refusal::Unread(path, error)),

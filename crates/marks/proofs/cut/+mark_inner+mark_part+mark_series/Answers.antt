@@ -17,170 +17,61 @@ falls u m = omega (arith, u .behind, u .below)
 next : {n q x : ℕ} {words : List ℕ} → Under n words q x → q + 1 ≤ x
 next u = omega (arith, u .behind)
 
+-- What each of the calls asks for: a smaller measure, and what its clauses say, in their order.
+asked : {A B C D E F G : Type 0} → A → B → C → D → E → F → G → A × (B × (C × (D × (E × (F × G)))))
+asked less ready tabled small room fresh here = (less, (ready, (tabled, (small, (room, (fresh, here))))))
+
 -- What a part is made of
 
 pub mark-inner-mark-part-requires : need.mark-inner-mark-part-requires
 mark-inner-mark-part-requires t c κs =
     let u = here-under (c .pre .ready) (c .pre .tabled) _ (c .pre .here) (c .in-Byte .ensures tt) in
     let l = falls u (c .measured) in
-    let room = c .pre .room in (
-      omega arith,
-      (
-        c .pre .ready,
-        (
-          c .pre .tabled,
-          (
-            c .pre .small,
-            (
-              room,
-              (
-                fresh-later (omega arith) (c .pre .fresh),
-                here-byte (c .pre .ready) (c .pre .tabled) (c .pre .here) (c .pre .some) (c .in-Byte .ensures tt),
-              ),
-            ),
-          ),
-        ),
-      ),
-    )
+    asked (omega arith) (c .pre .ready) (c .pre .tabled) (c .pre .small) (c .pre .room) (fresh-later (omega arith) (c .pre .fresh))
+    (here-byte (c .pre .ready) (c .pre .tabled) (c .pre .here) (c .pre .some) (c .in-Byte .ensures tt))
 
 pub mark-inner-mark-part-middle-requires : need.mark-inner-mark-part-middle-requires
 mark-inner-mark-part-middle-requires t c κs =
     let us = here-under (c .pre .ready) (c .pre .tabled) _ (c .pre .here) (c .in-Seq .ensures tt) in
-    let l = falls (us .0) (c .measured) in (
-      omega arith,
-      (
-        c .pre .ready,
-        (
-          c .pre .tabled,
-          (
-            c .pre .small,
-            (
-              c .pre .room,
-              (
-                c .pre .fresh,
-                here-first (c .pre .ready) (c .pre .tabled) (c .pre .here) (c .in-Seq .ensures tt),
-              ),
-            ),
-          ),
-        ),
-      ),
-    )
+    let l = falls (us .0) (c .measured) in
+    asked (omega arith) (c .pre .ready) (c .pre .tabled) (c .pre .small) (c .pre .room) (c .pre .fresh)
+    (here-first (c .pre .ready) (c .pre .tabled) (c .pre .here) (c .in-Seq .ensures tt))
 
 pub mark-inner-mark-part-requires-in-Seq : need.mark-inner-mark-part-requires-in-Seq
 mark-inner-mark-part-requires-in-Seq t c κs =
     let us = here-under (c .pre .ready) (c .pre .tabled) _ (c .pre .here) (c .in-Seq .ensures tt) in
-    let l = falls (us .1) (c .measured) in (
-      omega arith,
-      (
-        c .pre .ready,
-        (
-          c .pre .tabled,
-          (
-            c .pre .small,
-            (
-              omega arith,
-              (
-                fresh-behind _ _ _ (c .mark-part-middle .ensures),
-                here-second (c .pre .ready) (c .pre .tabled) (c .pre .here) (c .in-Seq .ensures tt) (c .mark-part-middle .ensures .cut),
-              ),
-            ),
-          ),
-        ),
-      ),
-    )
+    let l = falls (us .1) (c .measured) in
+    asked (omega arith) (c .pre .ready) (c .pre .tabled) (c .pre .small) (omega arith) (fresh-behind _ _ _ (c .mark-part-middle .ensures))
+    (here-second (c .pre .ready) (c .pre .tabled) (c .pre .here) (c .in-Seq .ensures tt) (c .mark-part-middle .ensures .cut))
 
 pub mark-inner-mark-part-requires-then-starts-at :
     need.mark-inner-mark-part-requires-then-starts-at
 mark-inner-mark-part-requires-then-starts-at t c κs =
     let us = here-under (c .pre .ready) (c .pre .tabled) _ (c .pre .here) (c .in-Or .ensures tt) in
-    let l = falls (us .0) (c .measured) in (
-      omega arith,
-      (
-        c .pre .ready,
-        (
-          c .pre .tabled,
-          (
-            c .pre .small,
-            (
-              c .pre .room,
-              (
-                c .pre .fresh,
-                here-left (c .pre .ready) (c .pre .tabled) (c .pre .here) (c .in-Or .ensures tt) (sym (c .if-starts-at .ensures tt)),
-              ),
-            ),
-          ),
-        ),
-      ),
-    )
+    let l = falls (us .0) (c .measured) in
+    asked (omega arith) (c .pre .ready) (c .pre .tabled) (c .pre .small) (c .pre .room) (c .pre .fresh)
+    (here-left (c .pre .ready) (c .pre .tabled) (c .pre .here) (c .in-Or .ensures tt) (sym (c .if-starts-at .ensures tt)))
 
 pub mark-inner-mark-part-requires-else-starts-at :
     need.mark-inner-mark-part-requires-else-starts-at
 mark-inner-mark-part-requires-else-starts-at t c κs =
     let us = here-under (c .pre .ready) (c .pre .tabled) _ (c .pre .here) (c .in-Or .ensures tt) in
-    let l = falls (us .1) (c .measured) in (
-      omega arith,
-      (
-        c .pre .ready,
-        (
-          c .pre .tabled,
-          (
-            c .pre .small,
-            (
-              c .pre .room,
-              (
-                c .pre .fresh,
-                here-right (c .pre .ready) (c .pre .tabled) (c .pre .here) (c .pre .some) (c .in-Or .ensures tt) (sym (c .if-starts-at .ensures tt)),
-              ),
-            ),
-          ),
-        ),
-      ),
-    )
+    let l = falls (us .1) (c .measured) in
+    asked (omega arith) (c .pre .ready) (c .pre .tabled) (c .pre .small) (c .pre .room) (c .pre .fresh)
+    (here-right (c .pre .ready) (c .pre .tabled) (c .pre .here) (c .pre .some) (c .in-Or .ensures tt) (sym (c .if-starts-at .ensures tt)))
 
 pub mark-inner-mark-series-requires : need.mark-inner-mark-series-requires
 mark-inner-mark-series-requires t c κs =
-    let u = here-under (c .pre .ready) (c .pre .tabled) _ (c .pre .here) (c .in-Many .ensures tt) in (
-      falls u (c .measured),
-      (
-        c .pre .ready,
-        (
-          c .pre .tabled,
-          (
-            c .pre .small,
-            (
-              c .pre .room,
-              (
-                c .pre .fresh,
-                here-many (c .pre .ready) (c .pre .tabled) (c .pre .here) (c .in-Many .ensures tt),
-              ),
-            ),
-          ),
-        ),
-      ),
-    )
+    let u = here-under (c .pre .ready) (c .pre .tabled) _ (c .pre .here) (c .in-Many .ensures tt) in
+    asked (falls u (c .measured)) (c .pre .ready) (c .pre .tabled) (c .pre .small) (c .pre .room) (c .pre .fresh)
+    (here-many (c .pre .ready) (c .pre .tabled) (c .pre .here) (c .in-Many .ensures tt))
 
 pub mark-inner-mark-part-requires-in-Same : need.mark-inner-mark-part-requires-in-Same
 mark-inner-mark-part-requires-in-Same t c κs =
     let u = here-under (c .pre .ready) (c .pre .tabled) _ (c .pre .here) (c .in-Same .ensures tt) in
-    let l = falls u (c .measured) in (
-      omega arith,
-      (
-        c .pre .ready,
-        (
-          c .pre .tabled,
-          (
-            c .pre .small,
-            (
-              c .pre .room,
-              (
-                c .pre .fresh,
-                here-same (c .pre .ready) (c .pre .tabled) (c .pre .here) (c .in-Same .ensures tt),
-              ),
-            ),
-          ),
-        ),
-      ),
-    )
+    let l = falls u (c .measured) in
+    asked (omega arith) (c .pre .ready) (c .pre .tabled) (c .pre .small) (c .pre .room) (c .pre .fresh)
+    (here-same (c .pre .ready) (c .pre .tabled) (c .pre .here) (c .in-Same .ensures tt))
 
 pub mark-inner-returns-in-None : need.mark-inner-returns-in-None
 mark-inner-returns-in-None t c =
@@ -252,25 +143,9 @@ mark-part-returns t c =
 
 pub mark-series-mark-part-end-requires : need.mark-series-mark-part-end-requires
 mark-series-mark-part-end-requires t c κs =
-    let m : 3 * (c .args .tree .now .size - c .args .place) + 2 ≡ t = c .measured in (
-      omega arith,
-      (
-        c .pre .ready,
-        (
-          c .pre .tabled,
-          (
-            c .pre .small,
-            (
-              omega arith,
-              (
-                run-fresh _ _ _ (c .parts .inv .0),
-                here-more (c .pre .ready) (c .pre .tabled) (c .parts .inv .1) (sym (c .parts-test .ensures tt)),
-              ),
-            ),
-          ),
-        ),
-      ),
-    )
+    let m : 3 * (c .args .tree .now .size - c .args .place) + 2 ≡ t = c .measured in
+    asked (omega arith) (c .pre .ready) (c .pre .tabled) (c .pre .small) (omega arith) (run-fresh _ _ _ (c .parts .inv .0))
+    (here-more (c .pre .ready) (c .pre .tabled) (c .parts .inv .1) (sym (c .parts-test .ensures tt)))
 
 pub mark-series-parts-less : need.mark-series-parts-less
 mark-series-parts-less t c =

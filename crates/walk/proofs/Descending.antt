@@ -1,19 +1,19 @@
 -- From a part of a view in a cut text to its parts, for each kind of view: where they stand in the row, in the tree and in
 -- the text.
 use mathlib.Core.Path.{_≡_, refl, sym, _∙_, ap, ap₂, subst}
-use mathlib.Core.Bool.{Bool, true, false}
+use mathlib.Core.Bool.{true, false}
 use mathlib.Core.List.{List}
 use Prim.Native.Nat.{ℕ, _+_, _<_, _≤_}
 use native.Mathlib.Omega.{arith}
 use lib.ListN.{length}
 use denote.Ref.{now}
 use Rattle.lens.specs.Forms.{Text, Form, seq, or, many, Matches}
-use Rattle.lens.specs.Views.{View, copy, hide, then, swap, either, each}
-use Rattle.rows.specs.Rows.{form-row, view-row, View-fine}
+use Rattle.lens.specs.Views.{View, then, swap, either, each}
+use Rattle.rows.specs.Rows.{view-row, View-fine}
 use Rattle.rows.specs.Stands.{Stands, both-row, both-fine}
 use Rattle.rows.specs.Nodes.{Tagged}
 use Rattle.rows.proofs.Builds.{Builds}
-use Rattle.rows.proofs.Tags.{builds-copy, builds-hide, builds-then, builds-swap, builds-either, builds-each}
+use Rattle.rows.proofs.Tags.{builds-then, builds-swap, builds-either, builds-each}
 use Rattle.rows.proofs.Unique.{splits-view}
 use Rattle.clear.specs.declared.side.Side.{Side}
 use Rattle.clear.specs.declared.side.Side.the-variants.{Source, Look}
@@ -27,10 +27,9 @@ use Rattle.trees.specs.Nodes.{node-at}
 use Rattle.trees.specs.Tree.{Grows, grows-same, grows-seq, grows-or, grows-many}
 use Rattle.trees.specs.Rows.{Ready, Tabled}
 use Rattle.marks.specs.Tables.{Part}
-use Rattle.marks.specs.Passes.{Piece}
 use Rattle.grow.specs.Planted.{Planted, planted-copy, planted-hidden, planted-shown, planted-then, planted-swap, planted-turned, planted-either, planted-each}
 use Rattle.walk.specs.Turns.{slice, front, back}
-use Rattle.walk.specs.Walks.{Standing, Walk, Series, Chooses}
+use Rattle.walk.specs.Walks.{Walk, Series, Chooses}
 use Rattle.walk.proofs.Holding.{Held, piece, hold-seq, hold-left, hold-right, hold-many, hold-first}
 
 -- A planted view grows.

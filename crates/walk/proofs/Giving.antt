@@ -1,9 +1,11 @@
 -- From what a walk gives at the parts of a view to what it gives at the view, for each kind of view; and where it goes on.
-use mathlib.Core.Path.{_≡_, refl, sym, ap, subst}
+use mathlib.Core.Path.{_≡_, sym, ap, subst}
 use mathlib.Core.Bool.{true, false}
 use mathlib.Core.List.{List, [], _++_}
-use Prim.Native.Nat.{ℕ, _≤_}
+use Prim.Native.Nat.{ℕ, _-_, _≤_}
 use native.Mathlib.Omega.{arith}
+use lib.ListN.{length}
+use Rattle.std.proofs.shelf.Lists.{take-all}
 use Rattle.lens.specs.Forms.{Text, Matches}
 use Rattle.lens.specs.Views.{View, each}
 use Rattle.rows.specs.Rows.{form-row, text-row, view-row, View-fine}
@@ -21,7 +23,7 @@ use Rattle.marks.proofs.Cuts.{cut-ordered}
 use Rattle.walk.specs.Turns.{slice, Gives, other-text, front, back}
 use Rattle.walk.specs.Walks.{Walk, Series, Chooses}
 use Rattle.walk.proofs.Turning.{slice-both, slice-none, turns-copy, turns-hide, turns-then, turns-swap, turns-left, turns-right, turns-none, turns-more}
-use Rattle.walk.proofs.Descending.{Ends, walk-piece, then-walks, swap-walks, either-walks, each-walks, first-walks}
+use Rattle.walk.proofs.Descending.{Ends, walk-piece, then-walks, swap-walks, either-walks, each-walks}
 
 -- The same of a view or a text that is known to be another one.
 gives-view : {side : Side} {v v′ : View} {s : Text} {P : Text → Type 0} → v ≡ v′ → Gives side v′ s P → Gives side v s P
@@ -114,3 +116,11 @@ all-gives {text = text} {m = m} {e} i rest done given =
     let ordered = cut-ordered (rest .held .cut) in
     let same : e ≡ m = omega arith in
     gives-text (ap (λ e. slice text i e) same) given
+
+-- The whole text
+pub whole-gives : {side : Side} {v : View} (text : Text) {P : Text → Type 0} → Gives side v (slice text 0 (length text)) P → Gives side v text P
+whole-gives text given = gives-text (sym (take-all (length text - 0) text (omega arith))) given
+
+-- The same, where more is known of what is taken than is asked for.
+pub more-taken : {side : Side} {v : View} {s : Text} {P Q : Text → Type 0} → ((u : Text) → P u → Q u) → Gives side v s P → Gives side v s Q
+more-taken so given = record { out = given .out; turns = given .turns; took = so (given .out) (given .took) }

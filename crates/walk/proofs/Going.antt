@@ -1,24 +1,32 @@
 -- Where a walk goes on: at the parts of a view, which stand behind it in the row.
-use mathlib.Core.Path.{_≡_}
+use mathlib.Core.Path.{_≡_, sym, ap, _∙_, subst}
 use mathlib.Core.Bool.{true, false}
-use mathlib.Core.List.{List}
-use Prim.Native.Nat.{ℕ, _+_, _*_, _-_, _<_, _≤_}
+use mathlib.Core.List.{List, [], _∷_, _++_, append-nil}
+use Prim.Native.Nat.{ℕ, _+_, _*_, _-_, _<_, zero-le}
+use native.Mathlib.Nat.{le-refl}
 use native.Mathlib.Omega.{arith}
 use lib.ListN.{length}
-use Rattle.lens.specs.Forms.{Text}
+use denote.Ref.{now}
+use Rattle.std.proofs.shelf.Lists.{drop-all}
+use Rattle.lens.specs.Forms.{Text, Matches}
 use Rattle.lens.specs.Views.{View}
-use Rattle.rows.specs.Rows.{view-row, View-fine}
+use Rattle.rows.specs.Rows.{view-row, View-fine, Encodes}
 use Rattle.rows.specs.Stands.{Stands, Nowhere, both-row, both-fine}
 use Rattle.rows.specs.Nodes.{Tagged}
 use Rattle.rows.proofs.Builds.{Builds, nowhere-first, nowhere-tagged}
 use Rattle.clear.specs.declared.side.Side.{Side}
 use Rattle.clear.specs.declared.side.Side.the-variants.{Source, Look}
+use Rattle.clear.specs.Sides.{side-form}
 use Rattle.clear.proofs.Laying.{laid-somewhere}
+use Rattle.clear.proofs.Lengths.{view-long}
 use Rattle.trees.specs.declared.tree.Tree.{Tree}
+use Rattle.trees.specs.Tree.{Grows, Fits, fits-none, fits-more, At, at-root}
 use Rattle.trees.specs.Rows.{Ready, Tabled}
+use Rattle.marks.specs.Tables.{Part}
+use Rattle.grow.specs.Planted.{Planted}
 use Rattle.walk.specs.Turns.{front, back}
 use Rattle.walk.specs.Walks.{Walk, Walks, Series, Some-series, Chooses}
-use Rattle.walk.proofs.Descending.{Ends, then-walks, swap-walks, either-walks, each-walks, first-walks}
+use Rattle.walk.proofs.Descending.{planted-grows, Ends, then-walks, swap-walks, either-walks, each-walks, first-walks}
 
 -- A place behind another one has less of the row behind it.
 pub falls : {n place x t : ℕ} → place < n → place < x → 2 * (n - place) ≡ t → 2 * (n - x) + 1 < t
@@ -84,3 +92,29 @@ module _ {side : Side} {row : List ℕ} {tree : Tree} {text : Text} {starts mark
   pub go-part : {place i m e : ℕ} {l : View} → Ends tree text starts marks place i m → i < e → Series side row tree text starts marks place i e l →
       Walks side row tree text starts marks place i m
   go-part ends more s = record { view = _; walk = first-walks ready tabled ends more s .0 }
+
+-- The whole text, at the root of the tree.
+pub go-whole : {side : Side} {row : List ℕ} {tree : Tree} {text : Text} {starts marks : List ℕ} {v : View} → Encodes row v → tree .root ≡ 0 →
+    Planted (now (tree .words)) side 0 v → Matches (side-form side v) text → Part tree text starts marks (tree .root) 0 (length text) →
+    Walk side row tree text starts marks 0 0 (length text) v
+go-whole {side} {row} {tree} {text} {starts} {marks} {v} encodes root planted matches part =
+    let grows = planted-grows planted in
+    record {
+      behind = length row;
+      laid = record {
+        sound = encodes .fine;
+        less = omega (arith, view-long v, ap length (encodes .row));
+        within = le-refl (length row);
+        laid = sym (ap (λ r. view-row v ++ r) (drop-all (length row) row (le-refl (length row))) ∙ append-nil (view-row v) ∙ encodes .row);
+      };
+      standing = record {
+        planted = planted;
+        holds = record {
+          stack = [];
+          stands = subst (λ q. At (now (tree .words)) (tree .root) q (side-form side v) []) root (at-root (subst (λ q. Grows (now (tree .words)) q (side-form side v)) (sym root) grows));
+          fits = subst (Fits (side-form side v ∷ [])) (append-nil text) (fits-more text [] matches fits-none);
+          within = zero-le;
+        };
+      };
+      part = subst (λ q. Part tree text starts marks q 0 (length text)) root part;
+    }

@@ -4,9 +4,9 @@ use mathlib.Core.Path.{_≡_, refl, sym, subst}
 use mathlib.Core.Bool.{Bool, true, false}
 use mathlib.Core.Logic.{_⊎_, inl, inr}
 use mathlib.Core.List.{List, [], _∷_}
-use Prim.Native.Nat.{ℕ, _<_, _≤_}
+use Prim.Native.Nat.{ℕ, _<_}
 use native.Mathlib.Omega.{arith}
-use lib.ListN.{length, drop}
+use lib.ListN.{drop}
 use denote.Ref.{now}
 use Rattle.std.proofs.shelf.Tests.{cases-bool}
 use Rattle.lens.specs.Forms.{Text, Form, seq, or, many, Matches}
@@ -20,7 +20,6 @@ use Rattle.trees.proofs.Stacks.{fits-seq-complete}
 use Rattle.marks.specs.Cut.{cut-none}
 use Rattle.marks.specs.Tables.{Part, begun}
 use Rattle.marks.specs.Passes.{Here, Here-series, Piece}
-use Rattle.marks.proofs.Cuts.{cut-ordered}
 use Rattle.marks.proofs.Ends.{part-empty}
 use Rattle.marks.proofs.Sound.{begins-true, begins-false}
 use Rattle.marks.proofs.Places.{more-moves}
@@ -159,6 +158,3 @@ module _ {tree : Tree} {text : Text} {starts : List ℕ} (ready : Ready tree) (t
           record { stack = h .stack; stands = h .stands; fits = found .rest; within = found .within; cut = rest },
           more-moves ready tabled here-parts s first,
         )
-
-    pub series-ordered : i ≤ e
-    series-ordered = cut-ordered (h .cut)

@@ -1,12 +1,12 @@
 -- From what the parts of a text turn into to what the whole text turns into, for each kind of view and both sides.
 use mathlib.Core.Path.{_≡_, refl, sym, _∙_, ap, ap₂, subst}
-use mathlib.Core.List.{List, [], _∷_, _++_, append-assoc, append-nil}
+use mathlib.Core.List.{[], _∷_, _++_, append-assoc, append-nil}
 use Prim.Native.Nat.{ℕ, _+_, _-_, _≤_}
 use native.Mathlib.Nat.{le-antisymm}
 use native.Mathlib.Omega.{arith}
-use lib.ListN.{length, take, drop}
+use lib.ListN.{take, drop}
 use lib.Seq.{drop-drop, take-add}
-use Rattle.lens.specs.Forms.{Text, Form, exactly, Matches, is-empty, is-one, is-seq}
+use Rattle.lens.specs.Forms.{Text, Form, exactly, Matches}
 use Rattle.lens.specs.Views.{View, copy, hide, then, swap, either, each, Shows, s-copy, s-hide, s-then, s-swap, s-left, s-right, s-none, s-more, Makes, m-copy, m-hide, m-then, m-swap, m-left, m-right, m-none, m-more}
 use Rattle.lens.proofs.Inversions.{on-empty, on-one, on-seq}
 use Rattle.clear.specs.declared.side.Side.{Side}
@@ -72,13 +72,17 @@ turns-none Look = made m-none
 
 -- One part more, behind the others
 shows-more : {l : View} {s t u w : Text} → Shows (each l) s u → Shows l t w → Shows (each l) (s ++ t) (u ++ w)
-shows-more {l} {t = t} {w = w} s-none b = subst (λ s. Shows (each l) s w) (append-nil t) (subst (λ u. Shows (each l) (t ++ []) u) (append-nil w) (s-more t [] w [] b s-none))
+shows-more {l} {t = t} {w = w} s-none b =
+    subst (λ s. Shows (each l) s w) (append-nil t)
+    (subst (λ u. Shows (each l) (t ++ []) u) (append-nil w) (s-more t [] w [] b s-none))
 shows-more {l} {t = t} {w = w} (s-more s s′ u u′ a more) b =
     subst (λ x. Shows (each l) x ((u ++ u′) ++ w)) (sym (append-assoc s s′ t))
     (subst (λ x. Shows (each l) (s ++ (s′ ++ t)) x) (sym (append-assoc u u′ w)) (s-more s (s′ ++ t) u (u′ ++ w) a (shows-more more b)))
 
 makes-more : {l : View} {s t u w : Text} → Makes (each l) s u → Makes l t w → Makes (each l) (s ++ t) (u ++ w)
-makes-more {l} {t = t} {w = w} m-none b = subst (λ s. Makes (each l) s w) (append-nil t) (subst (λ u. Makes (each l) (t ++ []) u) (append-nil w) (m-more t [] w [] b m-none))
+makes-more {l} {t = t} {w = w} m-none b =
+    subst (λ s. Makes (each l) s w) (append-nil t)
+    (subst (λ u. Makes (each l) (t ++ []) u) (append-nil w) (m-more t [] w [] b m-none))
 makes-more {l} {t = t} {w = w} (m-more s s′ u u′ a more) b =
     subst (λ x. Makes (each l) x ((u ++ u′) ++ w)) (sym (append-assoc s s′ t))
     (subst (λ x. Makes (each l) (s ++ (s′ ++ t)) x) (sym (append-assoc u u′ w)) (m-more s (s′ ++ t) u (u′ ++ w) a (makes-more more b)))

@@ -1,5 +1,5 @@
 -- What is written into the part of lent bytes behind those that were written already.
-use mathlib.Core.Path.{_≡_, refl, sym, _∙_, ap, ap₂}
+use mathlib.Core.Path.{_≡_, refl, sym, _∙_, ap, ap₂, subst}
 use mathlib.Core.List.{List, _++_}
 use Prim.Native.Nat.{ℕ, _+_, _-_, _≤_}
 use native.Mathlib.Omega.{arith}
@@ -19,3 +19,7 @@ written-long b n u room =
 
 pub wrote-here : {b b′ : List ℕ} {n : ℕ} {u : List ℕ} → n + length u ≤ length b → b′ ≡ written b n u → Wrote b n b′ (n + length u) u
 wrote-here {b} {n = n} {u} room is = record { same = ap length is ∙ written-long b n u room; counts = λ _. refl; fits = λ _. is }
+
+-- The bytes that were lent are, when they are back, what was written into them.
+pub wrote-back : {b b′ x : List ℕ} {n n′ : ℕ} {u : List ℕ} → x ≡ b′ → Wrote b n b′ n′ u → Wrote b n x n′ u
+wrote-back {b} {n = n} {n′} {u} is w = subst (λ x. Wrote b n x n′ u) (sym is) w

@@ -1,5 +1,4 @@
 -- What a text of one side of a view turns into on the other side.
-use mathlib.Core.List.{List}
 use Prim.Native.Nat.{ℕ, _-_}
 use lib.ListN.{take, drop}
 use Rattle.lens.specs.Forms.{Text}

@@ -4,11 +4,14 @@ mod count;
 mod give;
 mod sink;
 mod walk;
+mod whole;
 mod written;
 
 pub use count::Count;
 pub use count::CountSink;
 pub use sink::Sink;
 pub use walk::turn;
+pub use whole::turned_len;
+pub use whole::write_turned;
 pub use written::Written;
 pub use written::WrittenSink;

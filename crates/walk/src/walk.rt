@@ -1,6 +1,6 @@
 // The walk over a cut text, by the view of a row: from each part of the text to what it turns into on the other side.
 ghost use mathlib.Core.Path.{_≡_};
-ghost use Prim.Native.Nat.{ℕ, _+_, _*_, _^_, _≤_};
+ghost use Prim.Native.Nat.{_+_, _*_, _^_, _≤_};
 ghost use lib.ListN.{length};
 ghost use Rattle.lens.specs.Views.{View, each};
 ghost use Rattle.trees.specs.Rows.{Ready, Tabled};

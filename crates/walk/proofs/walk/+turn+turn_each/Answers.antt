@@ -1,5 +1,5 @@
-use mathlib.Core.Path.{_≡_, sym}
-use Prim.Native.Nat.{ℕ, _+_, _*_, _-_, _<_, _≤_}
+use mathlib.Core.Path.{_≡_}
+use Prim.Native.Nat.{_+_, _*_, _-_, _<_}
 use native.Mathlib.Nat.{le-refl}
 use native.Mathlib.Omega.{arith}
 use lib.ListN.{length}
@@ -30,15 +30,13 @@ turn-returns-in-rest-part-end g t c = λ v w. absurd (walk-nowhere builds-then (
 pub turn-turn-requires : need.turn-turn-requires
 turn-turn-requires g t c κs within =
     let tag = rw (c .in-Then .is) at (c .in-Some .ensures tt) in
-    let m = c .measured in
-    let l = falls (walks-inside (c .pre .walks)) (first-behind tag (c .in-Some-part-end .ensures tt .ends (c .pre .short))) m in
+    let l = falls (walks-inside (c .pre .walks)) (first-behind tag (c .in-Some-part-end .ensures tt .ends (c .pre .short))) (c .measured) in
     (omega (arith, l), (within, (c .pre .short, (c .pre .ready, (c .pre .tabled, (c .pre .small, go-first (c .pre .ready) (c .pre .tabled) tag (c .in-Some-part-end .ensures tt .ends (c .pre .short)) (c .end-of-middle .ensures) (c .pre .walks)))))))
 
 pub turn-turn-requires-in-Then : need.turn-turn-requires-in-Then
 turn-turn-requires-in-Then g t c κs within =
     let tag = rw (c .in-Then .is) at (c .in-Some .ensures tt) in
-    let m = c .measured in
-    let l = falls (walks-inside (c .pre .walks)) (second-behind tag (c .in-Some-part-end .ensures tt .ends (c .pre .short))) m in
+    let l = falls (walks-inside (c .pre .walks)) (second-behind tag (c .in-Some-part-end .ensures tt .ends (c .pre .short))) (c .measured) in
     (omega (arith, l), (within, (c .pre .short, (c .pre .ready, (c .pre .tabled, (c .pre .small, go-second (c .pre .ready) (c .pre .tabled) tag (c .in-Some-part-end .ensures tt .ends (c .pre .short)) (c .end-of-middle .ensures) (c .pre .walks)))))))
 
 pub turn-returns-in-Some-part-end : need.turn-returns-in-Some-part-end
@@ -55,16 +53,14 @@ pub turn-turn-requires-in-Swap : need.turn-turn-requires-in-Swap
 turn-turn-requires-in-Swap g t c κs within =
     let tag = rw (c .in-Swap .is) at (c .in-Some .ensures tt) in
     let go = go-back (c .pre .ready) (c .pre .tabled) tag (c .in-Some-part-end-2 .ensures tt .ends (c .pre .short)) (c .in-order-front .ensures) (c .end-of-middle-in-Swap .ensures) (c .pre .walks) in
-    let m = c .measured in
-    let l = falls (walks-inside (c .pre .walks)) (go .1) m in
+    let l = falls (walks-inside (c .pre .walks)) (go .1) (c .measured) in
     (omega (arith, l), (within, (c .pre .short, (c .pre .ready, (c .pre .tabled, (c .pre .small, go .0))))))
 
 pub turn-turn-requires-in-Swap-2 : need.turn-turn-requires-in-Swap-2
 turn-turn-requires-in-Swap-2 g t c κs within =
     let tag = rw (c .in-Swap .is) at (c .in-Some .ensures tt) in
     let go = go-front (c .pre .ready) (c .pre .tabled) tag (c .in-Some-part-end-2 .ensures tt .ends (c .pre .short)) (c .in-order-front .ensures) (c .end-of-middle-in-Swap .ensures) (c .pre .walks) in
-    let m = c .measured in
-    let l = falls (walks-inside (c .pre .walks)) (go .1) m in
+    let l = falls (walks-inside (c .pre .walks)) (go .1) (c .measured) in
     (omega (arith, l), (within, (c .pre .short, (c .pre .ready, (c .pre .tabled, (c .pre .small, go .0))))))
 
 pub turn-returns-in-Some-part-end-2 : need.turn-returns-in-Some-part-end-2
@@ -80,15 +76,13 @@ turn-returns-in-rest-part-end-3 g t c = λ v w. absurd (walk-nowhere builds-eith
 pub turn-turn-requires-then-takes-first : need.turn-turn-requires-then-takes-first
 turn-turn-requires-then-takes-first g t c κs within =
     let tag = rw (c .in-Either .is) at (c .in-Some .ensures tt) in
-    let m = c .measured in
-    let l = falls (walks-inside (c .pre .walks)) (first-behind tag (c .in-Some-part-end-3 .ensures tt .ends (c .pre .short))) m in
+    let l = falls (walks-inside (c .pre .walks)) (first-behind tag (c .in-Some-part-end-3 .ensures tt .ends (c .pre .short))) (c .measured) in
     (omega (arith, l), (within, (c .pre .short, (c .pre .ready, (c .pre .tabled, (c .pre .small, go-left (c .pre .ready) (c .pre .tabled) tag (c .in-Some-part-end-3 .ensures tt .ends (c .pre .short)) (c .if-takes-first .ensures tt) (c .pre .walks)))))))
 
 pub turn-turn-requires-else-takes-first : need.turn-turn-requires-else-takes-first
 turn-turn-requires-else-takes-first g t c κs within =
     let tag = rw (c .in-Either .is) at (c .in-Some .ensures tt) in
-    let m = c .measured in
-    let l = falls (walks-inside (c .pre .walks)) (second-behind tag (c .in-Some-part-end-3 .ensures tt .ends (c .pre .short))) m in
+    let l = falls (walks-inside (c .pre .walks)) (second-behind tag (c .in-Some-part-end-3 .ensures tt .ends (c .pre .short))) (c .measured) in
     (omega (arith, l), (within, (c .pre .short, (c .pre .ready, (c .pre .tabled, (c .pre .small, go-right (c .pre .ready) (c .pre .tabled) tag (c .in-Some-part-end-3 .ensures tt .ends (c .pre .short)) (c .if-takes-first .ensures tt) (c .pre .walks)))))))
 
 pub turn-returns-then-takes-first : need.turn-returns-then-takes-first
@@ -103,8 +97,7 @@ pub turn-turn-each-requires : need.turn-turn-each-requires
 turn-turn-each-requires g t c κs within =
     let tag = rw (c .in-Each .is) at (c .in-Some .ensures tt) in
     let behind : c .args .place < c .in-Each .body = omega (arith, tag .behind) in
-    let m = c .measured in
-    let l = falls (walks-inside (c .pre .walks)) behind m in
+    let l = falls (walks-inside (c .pre .walks)) behind (c .measured) in
     (omega (arith, l), (within, (c .pre .short, (c .pre .ready, (c .pre .tabled, (c .pre .small, go-parts (c .pre .ready) (c .pre .tabled) tag (c .pre .walks)))))))
 
 pub turn-returns-in-Each : need.turn-returns-in-Each

@@ -1,15 +1,14 @@
 -- The answers of `show` and `make`: what was counted and written is what the text turns into, and there is one such text.
 use mathlib.Core.Path.{_≡_, refl, sym, ap, subst, _∙_}
-use mathlib.Core.List.{List, [], _∷_, _++_}
-use Prim.Native.Nat.{ℕ, zero, suc, _+_, _-_, _*_, _/_, _^_, _≤_, _<_, min}
-use native.Mathlib.Nat.{sub-zero, zero-add, mul-add, add-mul, one-mul, mul-one, mul-comm, mul-le-mul-left, le-mul-of-pos-right}
+use mathlib.Core.List.{List, _++_}
+use Prim.Native.Nat.{ℕ, _^_, _≤_, _<_}
+use native.Mathlib.Nat.{zero-add}
 use native.Mathlib.Omega.{arith}
 use lib.ListN.{length, take, drop}
 use lib.Seq.{take-at, drop-at}
-use Rattle.std.proofs.shelf.Lists.{take-all}
 use Rattle.std.proofs.shelf.Tests.{cases-lt}
 use mathlib.Core.Logic.{inl, inr}
-use Rattle.lens.specs.Forms.{Text, Matches}
+use Rattle.lens.specs.Forms.{Text}
 use Rattle.lens.specs.Views.{View, Shows, Makes}
 use Rattle.lens.specs.Clear.{Clear}
 use Rattle.lens.proofs.Works.{clear-works}
@@ -17,13 +16,12 @@ use Rattle.rows.specs.Rows.{Encodes}
 use Rattle.clear.proofs.Lengths.{view-long}
 use Rattle.clear.specs.declared.side.Side.{Side}
 use Rattle.clear.specs.declared.side.Side.the-variants.{Source, Look}
-use Rattle.clear.specs.Sides.{side-form}
 use Rattle.walk.specs.Turns.{Turns, shown, made, Gives}
 use Rattle.walk.specs.Counts.{Counted}
-use Rattle.walk.specs.Writes.{Wrote, written}
+use Rattle.walk.specs.Writes.{Wrote}
 use Rattle.views.specs.declared.turning.Made.{Made}
 use Rattle.views.specs.declared.turning.Made.the-variants.{Done, Muddy, NoSuch, NoSource, NoLook, Full, Small}
-use Rattle.views.specs.Made.{Written, Shown-says, Made-says, Turned-says, Shown-post, Made-post, Turned-post, Cleared-post, Clear-row, missing, room-for}
+use Rattle.views.specs.Made.{Written, Shown-says, Made-says, Turned-says, Shown-post, Made-post, Turned-post, Cleared-post, Clear-row}
 
 -- A text turns into one text.
 on-shown : {v : View} {s u : Text} → Turns Source v s u → Shows v s u
@@ -77,13 +75,6 @@ module _ {side : Side} {s : List ℕ} {text : Text} (c : Clear-row s) where
       rest : drop b o′ ≡ drop b o
       rest = ap (drop b) is ∙ drop-at (g .out) (drop b o) b (sym long)
 
-  pub delivers-none : {o : List ℕ} → (Matches (side-form side (c .view)) text → ⊥) → Cleared-post side s text o o (missing side)
-  delivers-none {o} never = none side refl never
-    where
-      none : (z : Side) → z ≡ side → (Matches (side-form z (c .view)) text → ⊥) → Cleared-post z s text o o (missing z)
-      none Source e n = record { says = (refl, (c .view, c .encodes, c .clear, n, refl)); large = λ e. subst Is-small (sym e) tt }
-      none Look e n = record { says = (refl, (c .view, c .encodes, c .clear, n, refl)); large = λ e. subst Is-small (sym e) tt }
-
 -- From what is said of a side to what the two calls promise
 two-sides : {X : Type 0} → Source ≡ Look → X
 two-sides e = let z : _≡_ {A = ℕ} 0 1 = cc in absurd (omega arith)
@@ -112,26 +103,6 @@ shown-post {s} {a} {o} {o′} {r = r} h = record { says = shown-says s a o o′ 
 pub made-post : {s : List ℕ} {a : Text} {o o′ : List ℕ} {w : ℕ} {r : Made} → Turned-post Look s a o o′ w r → Made-post s a o o′ w r
 made-post {s} {a} {o} {o′} {r = r} h = record { says = made-says s a o o′ r (h .says); small = h .small }
 
--- The words are enough for the tables of a view of n bytes and a text of t bytes, and its cells can be numbered.
-cells : (n t : ℕ) → n ≤ 1024 → (1 + min 1025 n) * (1 + t) ≡ t * n + n + t + 1
-cells n t h =
-    let is : min 1025 n ≡ n = omega arith in
-    rw is (simp (mul-add, add-mul, one-mul, mul-one) (omega (arith, mul-comm t n)))
-
-square : (n : ℕ) → n ≤ n * n
-square zero = omega arith
-square (suc n) = le-mul-of-pos-right (suc n) (omega arith)
-
-pub tables-fit : (n t w : ℕ) → n ≤ 1024 → room-for n t ≤ w → 4 * n + (n / 32 + 1) + (n / 32 + 1) + (t * n / 32 + 1) + (t * n / 32 + 1) ≤ w
-tables-fit n t w h e =
-    let is : min 1025 n ≡ n = omega arith in
-    let s : min 1025 n * min 1025 n ≡ n * n = rw is refl in
-    omega (arith, cells n t h, square n)
-
-pub cells-small : (n t w : ℕ) → n ≤ 1024 → room-for n t ≤ w → w * 4 < 2 ^ 63 → t * n + 2 ^ 32 ≤ 2 ^ 64
-cells-small n t w h e l =
-    let few : t * n ≤ t * 1024 = mul-le-mul-left t h in
-    omega (arith, cells n t h, square n)
-
+-- A row that says a view is not empty.
 pub encoded-some : {s : List ℕ} {v : View} → Encodes s v → 0 < length s
 encoded-some {s} {v} e = subst (λ r. 0 < length r) (e .row) (view-long v)

@@ -1,7 +1,7 @@
 use mathlib.Core.Path.{refl}
 use native.Mathlib.Omega.{arith}
 use Rattle.walk.proofs.Going.{go-whole}
-use Rattle.views.proofs.Turned.{encoded-some, delivers-full, delivers-done, delivers-none}
+use Rattle.views.proofs.Turned.{encoded-some, delivers-full, delivers-done}
 use Rattle.views.proofs.turning.cut_and_turn.Needs as need
 
 pub backward-requires : need.backward-requires

@@ -1,5 +1,7 @@
 // A table of bits in lent words, 32 bits a word, the lowest bit of a word first.
 // Not here: where the words come from, and what a bit stands for; both are the caller's.
+#![tactic(auto)]
+
 ghost use Rattle.std.specs.Prelude.{◌≡◌, ◌+◌, ◌*◌, ◌^◌, ◌<◌, ◌≤◌, true, length, Decides};
 ghost use Rattle.bits.specs.Bits.{bit, Puts, PutsBits, with_field, Clears, Covers};
 

@@ -1,5 +1,7 @@
 // The calls for C and Rust: each hands on what the call of the same name answers, its answer as a number and what was written
 // through `written`. A slice is a pointer and then a length.
+#![tactic(auto)]
+
 ghost use Rattle.std.specs.Prelude.{length};
 ghost use Rattle.calls.specs.Codes.{JudgeAnswers, ShowAnswers, MakeAnswers, PutAnswers};
 

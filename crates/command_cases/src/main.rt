@@ -1,4 +1,6 @@
 // Calls the programs as functions of their arguments, and prints what they print or why they refuse. Standard input is empty.
+#![tactic(auto)]
+
 use commands::Refusal;
 use std::io::Write;
 use std::{fs, io};

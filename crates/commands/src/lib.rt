@@ -1,5 +1,7 @@
 // The programs show, put and judge, as functions from their arguments to what they print, or to why they refuse. Not here:
 // what a view does with a text (crate views).
+#![tactic(auto)]
+
 mod answering;
 mod asking;
 mod excerpts;

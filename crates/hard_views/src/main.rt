@@ -1,5 +1,7 @@
 // Judges views that are hard to judge, and prints how many pairs of states are visited for each: how that grows
 // with the bytes of a row shows what judging costs. With --time it prints the milliseconds too.
+#![tactic(auto)]
+
 mod families;
 
 use families::{FAMILIES, Family};

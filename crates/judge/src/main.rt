@@ -1,4 +1,6 @@
 // judge VIEW: says whether a view is clear. What it does is in the crate commands.
+#![tactic(auto)]
+
 use commands::Refusal;
 
 fn main(rt: HostRuntime) -> Result<(), Refusal> {

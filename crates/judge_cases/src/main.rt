@@ -1,4 +1,6 @@
 // Judges views in notation and as rows, and holds what is said of each to what is expected.
+#![tactic(auto)]
+
 mod cases;
 
 use cases::{Case, FAULTS, WORKED};

@@ -1,6 +1,8 @@
 // Views as mathematics: the definitions are in specs/, the theorems about them in proofs/.
 // The functions here do nothing: each one's contract is a theorem about examples, so that the check asks for its
 // proof. The laws of all clear views are fields of what `judge` promises (crate views).
+#![tactic(auto)]
+
 ghost use Rattle.lens.specs.Cases.{LetterHidden, LenderStays};
 ghost use Rattle.lens.specs.Needed.{Needed};
 

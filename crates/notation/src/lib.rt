@@ -26,6 +26,8 @@
 // is assumed: a byte from 0x80 on in quotes stands for itself.
 //
 // Not here: what a row means (crate rows) and what a view means (crate lens).
+#![tactic(auto)]
+
 ghost use Rattle.lens.specs.Views.{View};
 ghost use Rattle.rows.specs.Rows.{Encodes};
 ghost use Rattle.std.specs.Prelude.{IfOk};

@@ -1,4 +1,6 @@
 // Texts in the notation of views, each with the row that it becomes or with what is wrong with it and where.
+#![tactic(auto)]
+
 use notation::parse;
 use std::alloc::{AllocError, Global};
 use std::io;

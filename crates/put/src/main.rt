@@ -1,4 +1,6 @@
 // put VIEW SOURCE LOOK: prints the source that a changed look gives. What it does is in the crate commands.
+#![tactic(auto)]
+
 use commands::Refusal;
 
 fn main(rt: HostRuntime) -> Result<(), Refusal> {

@@ -1,6 +1,8 @@
 // Puts looks back into sources, at the edges of the room and of the lent bytes, and prints what came of it, with both laws:
 // what one sees, put back, gives the source again, and what was put back is what one then sees. Then the same of megabytes,
 // where the result is known.
+#![tactic(auto)]
+
 mod cases;
 mod large;
 

@@ -1,5 +1,7 @@
 // Which nodes of a finite graph are reached from some of them: the search, proved once for every graph.
 // Not here: the graphs. A crate above says what the nodes stand for, and implements `Graph`.
+#![tactic(auto)]
+
 mod find;
 mod graph;
 mod search;

@@ -1,4 +1,6 @@
 // Runs the search on a few graphs, with room for hints and with none, and prints how many nodes it visits and what it marks.
+#![tactic(auto)]
+
 ghost use Rattle.std.specs.Prelude.{◌^◌, ◌<◌};
 
 use reach::Graph;

@@ -1,5 +1,7 @@
 // Two calls in a row, and what comes of them: what is shown and put back changes nothing, and what is put back is what one
 // then sees. The laws of a clear view, said of the calls' own answers.
+#![tactic(auto)]
+
 ghost use Rattle.std.specs.Prelude.{length};
 ghost use Rattle.round_trips.specs.Trips.{Unchanged, Seen};
 

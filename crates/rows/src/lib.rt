@@ -1,5 +1,7 @@
 // Views as rows of bytes: at most 1,024 bytes in prefix order, read one node at a time.
 // Not here: the readable notation (crate notation), and what a view means (crate lens).
+#![tactic(auto)]
+
 ghost use Rattle.rows.specs.Cases.{NumberRow};
 ghost use Rattle.rows.specs.Reads.{IsView, PartEnd};
 

@@ -1,4 +1,6 @@
 // Reads rows of bytes: each tag, the edges of ranges, texts and lengths, parts and random rows.
+#![tactic(auto)]
+
 mod dice;
 mod samples;
 mod stack;

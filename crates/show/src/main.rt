@@ -1,4 +1,6 @@
 // show VIEW SOURCE: prints how a source looks. What it does is in the crate commands.
+#![tactic(auto)]
+
 use commands::Refusal;
 
 fn main(rt: HostRuntime) -> Result<(), Refusal> {

@@ -1,5 +1,7 @@
 // Shows texts and makes sources by worked views, at the edges of the room and of the lent bytes, and prints what came of it;
 // then holds calls to what is known of them.
+#![tactic(auto)]
+
 mod known;
 
 use known::Known;

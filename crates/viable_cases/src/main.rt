@@ -1,5 +1,7 @@
 // Reads texts by worked views, by views of 1,024 bytes, and at the edges of the room, and prints where they break and what
 // could stand there.
+#![tactic(auto)]
+
 mod cases;
 mod said;
 

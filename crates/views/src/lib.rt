@@ -1,4 +1,6 @@
 // The calls on views: what is said of one, and what it does with texts.
+#![tactic(auto)]
+
 mod cutting;
 mod fitting;
 mod judging;

@@ -1,5 +1,7 @@
 // Walks over a cut text of one side of a view, and gives what it turns into on the other side.
 // Not here: how the text is cut (crate marks), and how two cut texts are walked over together (crate put_back).
+#![tactic(auto)]
+
 mod count;
 mod cut_text;
 mod delivery;

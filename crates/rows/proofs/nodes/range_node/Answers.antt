@@ -7,7 +7,7 @@ pub returns-then-row-at-lt3 : goal.returns-then-row-at-lt3
 returns-then-row-at-lt3 c = nowhere_short _ _ c.requires.inside c.requires.tagged (omega arith)
 
 pub returns-then-low-high : goal.returns-then-low-high
-returns-then-low-high c = (heads_range _ _ (omega arith) c.requires.tagged, (c.if-low-high.true, Fits-lt-pow (c.type-inv.row _)))
+returns-then-low-high c = (heads_range _ _ (omega arith) c.requires.tagged, (c.if-low-high.true, Fits-lt-pow (c.type_inv.row _)))
 
 pub returns-else-low-high : goal.returns-else-low-high
 returns-else-low-high c = nowhere_down _ _ (omega arith) c.requires.tagged c.if-low-high.false

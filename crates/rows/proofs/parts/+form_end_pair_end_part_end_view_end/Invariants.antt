@@ -2,14 +2,14 @@
 use Rattle.std.proofs.Common.{◌+◌, ◌-◌, ◌*◌, length}
 use Rattle.rows.proofs.parts.+form_end_pair_end_part_end_view_end.Given as goal
 
-abbrev pub decreases-form-end : goal.decreases-form-end
-decreases-form-end l = 3 * (length l.row.now - l.at)
+abbrev pub decreases-form_end : goal.decreases-form_end
+decreases-form_end l = 3 * (length l.row.now - l.at)
 
-abbrev pub decreases-pair-end : goal.decreases-pair-end
-decreases-pair-end l = 3 * (length l.row.now - l.at) + 2
+abbrev pub decreases-pair_end : goal.decreases-pair_end
+decreases-pair_end l = 3 * (length l.row.now - l.at) + 2
 
-abbrev pub decreases-part-end : goal.decreases-part-end
-decreases-part-end l = 3 * (length l.row.now - l.at) + 1
+abbrev pub decreases-part_end : goal.decreases-part_end
+decreases-part_end l = 3 * (length l.row.now - l.at) + 1
 
-abbrev pub decreases-view-end : goal.decreases-view-end
-decreases-view-end l = 3 * (length l.row.now - l.at)
+abbrev pub decreases-view_end : goal.decreases-view_end
+decreases-view_end l = 3 * (length l.row.now - l.at)

@@ -11,4 +11,4 @@ pub returns-then-row-start : goal.returns-then-row-start
 returns-then-row-start c = nowhere_cut _ _ c.if-at-row.false (omega arith)
 
 pub returns : goal.returns
-returns c = stands_text _ _ c.if-at-row.false (λ i. Fits-lt-pow (c.type-inv.row i)) (omega arith)
+returns c = stands_text _ _ c.if-at-row.false (λ i. Fits-lt-pow (c.type_inv.row i)) (omega arith)

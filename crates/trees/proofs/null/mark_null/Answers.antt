@@ -6,7 +6,7 @@ pub loop-place-init : goal.loop-place-init
 loop-place-init c = nulls_none _ _ _
 
 pub loop-place-preserved : goal.loop-place-preserved
-loop-place-preserved c = nulls_more c.requires.linked (omega arith) c.loop-place.invariant c.null-at-value.ensures c.put.ensures
+loop-place-preserved c = nulls_more c.requires.linked (omega arith) c.loop-place.invariant c.null_at-value.ensures c.put.ensures
 
 pub returns : goal.returns
 returns c = nulls_all c.loop-place-test.false c.loop-place.invariant

@@ -8,8 +8,8 @@ returns-then-i-text c = begins_past _ c.if-i-text.true
 pub returns : goal.returns
 returns c = begins_within _ c.if-i-text.false c.requires.tabled c.get.ensures
 
-pub overflow-mul-i : goal.overflow-mul-i
-overflow-mul-i c = omega (arith, row_within c.args.i (length c.args.text.now) c.args.tree.now.size c.if-i-text.false)
+pub overflow_mul-i : goal.overflow_mul-i
+overflow_mul-i c = omega (arith, row_within c.args.i (length c.args.text.now) c.args.tree.now.size c.if-i-text.false)
 
-pub overflow-add-i : goal.overflow-add-i
-overflow-add-i c = omega (arith, row_within c.args.i (length c.args.text.now) c.args.tree.now.size c.if-i-text.false)
+pub overflow_add-i : goal.overflow_add-i
+overflow_add-i c = omega (arith, row_within c.args.i (length c.args.text.now) c.args.tree.now.size c.if-i-text.false)

@@ -5,7 +5,7 @@ pub loop-place-init : goal.loop-place-init
 loop-place-init c = rested_none _ c.requires.ready _ _ _
 
 pub loop-place-preserved : goal.loop-place-preserved
-loop-place-preserved c = rested_more _ c.requires.ready c.loop-place.invariant c.rest-at-value.ensures c.put.ensures
+loop-place-preserved c = rested_more _ c.requires.ready c.loop-place.invariant c.rest_at-value.ensures c.put.ensures
 
 pub returns : goal.returns
 returns c = rested_all _ c.requires.ready c.loop-place-test.false c.loop-place.invariant

@@ -6,7 +6,7 @@ pub loop-place-init : goal.loop-place-init
 loop-place-init c = steps_none _ c.requires.ready _ _
 
 pub loop-place-preserved : goal.loop-place-preserved
-loop-place-preserved c = steps_more _ c.requires.ready (omega arith) (omega arith) c.requires.rested c.loop-place.invariant c.start-at-value.ensures c.put.ensures
+loop-place-preserved c = steps_more _ c.requires.ready (omega arith) (omega arith) c.requires.rested c.loop-place.invariant c.start_at-value.ensures c.put.ensures
 
 pub returns : goal.returns
 returns c = steps_all _ c.requires.ready c.loop-place-test.false c.loop-place.invariant

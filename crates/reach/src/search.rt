@@ -12,10 +12,10 @@ use crate::graph::{Graph, Moves};
 // Marks in `seen` every node that is reached from one that is marked, and answers how many nodes it visited.
 // `done` and `hints` are room to work in: they hold anything before and after.
 pub fn close<G: Graph>(g: &G, seen: &mut [u32], done: &mut [u32], hints: &mut [u32]) -> usize
-    requires seen_room { nodes g.now ≤ 32 * length seen.old }
-    requires done_room { nodes g.now ≤ 32 * length done.old }
-    requires small { nodes g.now < 2 ^ 32 }
-    ensures { Closed (edge g.now) (nodes g.now) seen.old seen.new result }
+    requires seen_room { G.nodes g.now ≤ 32 * length seen.old }
+    requires done_room { G.nodes g.now ≤ 32 * length done.old }
+    requires small { G.nodes g.now < 2 ^ 32 }
+    ensures { Closed (G.edge g.now) (G.nodes g.now) seen.old seen.new result }
 {
     bits::clear(done);
     let size = g.size();
@@ -37,11 +37,11 @@ fn drain<G: Graph>(
     hints: &mut [u32],
     mut top: usize,
 ) -> usize
-    requires seen_room { nodes g.now ≤ 32 * length seen.old }
-    requires done_room { nodes g.now ≤ 32 * length done.old }
-    requires small { nodes g.now < 2 ^ 32 }
+    requires seen_room { G.nodes g.now ≤ 32 * length seen.old }
+    requires done_room { G.nodes g.now ≤ 32 * length done.old }
+    requires small { G.nodes g.now < 2 ^ 32 }
     requires high { top ≤ length hints.old }
-    ensures { Advances (edge g.now) (nodes g.now) seen.old done.old seen.new done.new result }
+    ensures { Advances (G.edge g.now) (G.nodes g.now) seen.old done.old seen.new done.new result }
 {
     let size = g.size();
     let mut visits = 0;
@@ -66,13 +66,13 @@ fn visit<G: Graph>(
     top: usize,
     node: usize,
 ) -> usize
-    requires seen_room { nodes g.now ≤ 32 * length seen.old }
-    requires done_room { nodes g.now ≤ 32 * length done.old }
-    requires small { nodes g.now < 2 ^ 32 }
-    requires inside { node < nodes g.now }
+    requires seen_room { G.nodes g.now ≤ 32 * length seen.old }
+    requires done_room { G.nodes g.now ≤ 32 * length done.old }
+    requires small { G.nodes g.now < 2 ^ 32 }
+    requires inside { node < G.nodes g.now }
     requires fresh { Fresh seen.old done.old node }
     requires high { top ≤ length hints.old }
-    ensures way { Advances (edge g.now) (nodes g.now) seen.old done.old seen.new done.new 1 }
+    ensures way { Advances (G.edge g.now) (G.nodes g.now) seen.old done.old seen.new done.new 1 }
     ensures high { result ≤ length hints.old }
 {
     bits::set(done, node);
@@ -81,11 +81,11 @@ fn visit<G: Graph>(
 
 // Marks the nodes that the edges out of `node` lead to.
 fn expand<G: Graph>(g: &G, seen: &mut [u32], hints: &mut [u32], top: usize, node: usize) -> usize
-    requires seen_room { nodes g.now ≤ 32 * length seen.old }
-    requires small { nodes g.now < 2 ^ 32 }
-    requires inside { node < nodes g.now }
+    requires seen_room { G.nodes g.now ≤ 32 * length seen.old }
+    requires small { G.nodes g.now < 2 ^ 32 }
+    requires inside { node < G.nodes g.now }
     requires high { top ≤ length hints.old }
-    ensures all { Expands (edge g.now node) (nodes g.now) seen.old seen.new }
+    ensures all { Expands (G.edge g.now node) (G.nodes g.now) seen.old seen.new }
     ensures high { result ≤ length hints.old }
 {
     match g.moves(node) {

@@ -25,8 +25,8 @@ pub form_end-returns-in-Many : goal.form_end-returns-in-Many
 form_end-returns-in-Many t c = ends_tagged builds_many (rw c.in-Many.is at c.in_ok-form_node.ensures) _ c.part_end.ensures
 
 -- Pairs
-pub pair-end-returns-in_err-second : goal.pair-end-returns-in_err-second
-pair-end-returns-in_err-second t c = let k = c.args.kind in rw c.from_residual.ensures (nowhere_first (part_row k) (PartFine k) (part_row k) (PartFine k) c.in_err-second.ensures)
+pub pair_end-returns-in_err-second : goal.pair_end-returns-in_err-second
+pair_end-returns-in_err-second t c = let k = c.args.kind in rw c.from_residual.ensures (nowhere_first (part_row k) (PartFine k) (part_row k) (PartFine k) c.in_err-second.ensures)
 
 pub pair_end-returns : goal.pair_end-returns
 pair_end-returns t c = let k = c.args.kind in ends_both (part_row k) (PartFine k) (part_row k) (PartFine k) (splits_part k) c.in_ok-second.ensures _ c.part_end-2.ensures
@@ -45,16 +45,16 @@ part_end-returns-in-Text t c = rw c.in-Text.is c.text_end.ensures
 pub view_end-returns-in-Copy : goal.view_end-returns-in-Copy
 view_end-returns-in-Copy t c = ends_tagged builds_copy (rw c.in-Copy.is at c.in_ok-form.ensures) _ c.part_end.ensures
 
-pub view_end-returns-in_err-texts : goal.view_end-returns-in_err-texts
-view_end-returns-in_err-texts t c =
-    rw c.from_residual-in_err-texts.ensures
+pub view_end-returns-in_err-texts-in-Hide : goal.view_end-returns-in_err-texts-in-Hide
+view_end-returns-in_err-texts-in-Hide t c =
+    rw c.from_residual-in_err-texts-in-Hide.ensures
     (nowhere_tagged builds_hide (rw c.in-Hide.is at c.in_ok-form.ensures)
-    (nowhere_first form_row FormFine (both_row text_row text_row) (BothFine TextFine TextFine) c.in_err-texts.ensures))
+    (nowhere_first form_row FormFine (both_row text_row text_row) (BothFine TextFine TextFine) c.in_err-texts-in-Hide.ensures))
 
-pub view_end-returns-in_ok-texts : goal.view_end-returns-in_ok-texts
-view_end-returns-in_ok-texts t c =
+pub view_end-returns-in_ok-texts-in-Hide : goal.view_end-returns-in_ok-texts-in-Hide
+view_end-returns-in_ok-texts-in-Hide t c =
     ends_tagged builds_hide (rw c.in-Hide.is at c.in_ok-form.ensures) _
-    (ends_both form_row FormFine (both_row text_row text_row) (BothFine TextFine TextFine) splits_form c.in_ok-texts.ensures _ c.pair_end.ensures)
+    (ends_both form_row FormFine (both_row text_row text_row) (BothFine TextFine TextFine) splits_form c.in_ok-texts-in-Hide.ensures _ c.pair_end.ensures)
 
 pub view_end-returns-in-Then : goal.view_end-returns-in-Then
 view_end-returns-in-Then t c = ends_tagged builds_then (rw c.in-Then.is at c.in_ok-form.ensures) _ c.pair_end-in-Then.ensures

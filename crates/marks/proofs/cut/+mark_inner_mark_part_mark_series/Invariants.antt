@@ -5,18 +5,18 @@ use Rattle.marks.specs.Passes.{HereSeries}
 use Rattle.marks.proofs.Passing.{Run}
 use Rattle.marks.proofs.cut.+mark_inner_mark_part_mark_series.Given as goal
 
-abbrev pub decreases-mark-inner : goal.decreases-mark-inner
-decreases-mark-inner l = 3 * (l.tree.now.size - l.place)
+abbrev pub decreases-mark_inner : goal.decreases-mark_inner
+decreases-mark_inner l = 3 * (l.tree.now.size - l.place)
 
-abbrev pub decreases-mark-part : goal.decreases-mark-part
-decreases-mark-part l = 3 * (l.tree.now.size - l.place) + 1
+abbrev pub decreases-mark_part : goal.decreases-mark_part
+decreases-mark_part l = 3 * (l.tree.now.size - l.place) + 1
 
-abbrev pub decreases-mark-series : goal.decreases-mark-series
-decreases-mark-series l = 3 * (l.tree.now.size - l.place) + 2
+abbrev pub decreases-mark_series : goal.decreases-mark_series
+decreases-mark_series l = 3 * (l.tree.now.size - l.place) + 2
 
-abbrev pub invariant-mark-series-parts : goal.invariant-mark-series-parts
-invariant-mark-series-parts l =
+abbrev pub invariant-mark_series-parts : goal.invariant-mark_series-parts
+invariant-mark_series-parts l =
     Run l.tree l.text l.starts l.place l.initial.marks l.marks l.at l.end × HereSeries l.tree l.text l.place l.end
 
-abbrev pub decreases-mark-series-parts : goal.decreases-mark-series-parts
-decreases-mark-series-parts l = length l.text - l.end
+abbrev pub decreases-mark_series-parts : goal.decreases-mark_series-parts
+decreases-mark_series-parts l = length l.text - l.end

@@ -4,22 +4,22 @@ use Rattle.marks.proofs.Places.{before_end}
 use Rattle.marks.proofs.Ends.{part_empty, part_first_mark, part_has_mark, none_more}
 use Rattle.marks.proofs.pass.end_of.Goals as goal
 
-pub returns-then-not-starts-at : goal.returns-then-not-starts-at
-returns-then-not-starts-at c = λ e part. part_empty part (sym c.if-not-starts-at.ensures)
+pub returns-then-not-starts_at : goal.returns-then-not-starts_at
+returns-then-not-starts_at c = λ e part. part_empty part (sym c.if-not-starts_at.ensures)
 
-pub cell-at-requires : goal.cell-at-requires
-cell-at-requires c = record {
+pub cell_at-requires : goal.cell_at-requires
+cell_at-requires c = record {
   small = omega (arith, row_within c.loop-last.last (length c.args.text.now) c.args.tree.now.size (omega arith));
 }
 
-pub returns-then-cell-at : goal.returns-then-cell-at
-returns-then-cell-at c = λ e part.
-    part_first_mark part (sym c.if-not-starts-at.ensures) c.loop-last.auto.last (sym c.if-cell-at.ensures) c.loop-last.invariant
+pub returns-then-cell_at : goal.returns-then-cell_at
+returns-then-cell_at c = λ e part.
+    part_first_mark part (sym c.if-not-starts_at.ensures) c.loop-last.auto.last (sym c.if-cell_at.ensures) c.loop-last.invariant
 
 pub loop-last-preserved : goal.loop-last-preserved
-loop-last-preserved c = none_more c.loop-last.invariant (sym c.if-cell-at.ensures)
+loop-last-preserved c = none_more c.loop-last.invariant (sym c.if-cell_at.ensures)
 
 pub returns : goal.returns
 returns c = λ e part. absurd (part_has_mark
     (before_end c.args.tree.now c.args.text.now c.args.starts.now)
-    part (sym c.if-not-starts-at.ensures) c.loop-last-test.false c.loop-last.invariant)
+    part (sym c.if-not-starts_at.ensures) c.loop-last-test.false c.loop-last.invariant)

@@ -4,8 +4,8 @@ use Rattle.marks.proofs.Tables.{cleared}
 use Rattle.marks.proofs.Places.{here_root, root_ends}
 use Rattle.marks.proofs.pass.mark_all.Goals as goal
 
-pub mark-part-requires : goal.mark-part-requires
-mark-part-requires c =
+pub mark_part-requires : goal.mark_part-requires
+mark_part-requires c =
     record {
       ready = c.requires.ready;
       tabled = c.requires.tabled;
@@ -17,10 +17,10 @@ mark-part-requires c =
 
 pub returns : goal.returns
 returns c =
-    let cut = c.mark-part.ensures.cut in
+    let cut = c.mark_part.ensures.cut in
     record {
       accepts = c.if-not-matches.ensures;
       marked = λ yes.
-          subst (Part c.args.tree.now c.args.text.now c.args.starts.now c.mark-part.new.marks c.args.tree.now.root 0)
+          subst (Part c.args.tree.now c.args.text.now c.args.starts.now c.mark_part.new.marks c.args.tree.now.root 0)
           (root_ends c.requires.ready c.requires.tabled c.requires.grown c.if-not-matches.ensures cut) cut;
     }

@@ -3,21 +3,21 @@ use Rattle.pairs.proofs.Edges.{bounded_stays}
 use Rattle.pairs.proofs.Meeting.{node_inside}
 use Rattle.pairs.proofs.search.crosses.Goals as goal
 
-pub invariant-of-before : goal.invariant-of-before
-invariant-of-before c = (c.requires.few, (bounded_stays c.requires.bounded, tt))
+pub invariant_of-before : goal.invariant_of-before
+invariant_of-before c = record { few = c.requires.few; stays = bounded_stays c.requires.bounded }
 
-pub invariant-of-after : goal.invariant-of-after
-invariant-of-after c = (c.requires.few, (bounded_stays c.requires.bounded, tt))
+pub invariant_of-after : goal.invariant_of-after
+invariant_of-after c = record { few = c.requires.few; stays = bounded_stays c.requires.bounded }
 
-pub mark-only-requires : goal.mark-only-requires
-mark-only-requires c = record {
+pub mark_only-requires : goal.mark_only-requires
+mark_only-requires c = record {
   inside =
-      node_inside c.requires.first-inside c.requires.first-inside c.node.ensures c.pair-words-words.ensures
-      c.split-at-mut-seen.ensures.front-len;
+      node_inside c.requires.first_inside c.requires.first_inside c.node.ensures c.pair_words-words.ensures
+      c.split_at_mut-seen.ensures.front_len;
 }
 
 pub returns : goal.returns
 returns c =
-    crosses_decided _ c.args.table.now _ _ _ _ _ _ c.requires.bounded c.requires.first-inside c.requires.middle-inside c.requires.end-inside
-    c.node.ensures c.node-2.ensures c.mark-only.ensures c.close-visited-before.ensures c.enter.ensures
-    c.close-visited-after.ensures c.get-yes.ensures
+    crosses_decided _ c.args.table.now _ _ _ _ _ _ c.requires.bounded c.requires.first_inside c.requires.middle_inside c.requires.end_inside
+    c.node.ensures c.node-2.ensures c.mark_only.ensures c.close-visited_before.ensures c.enter.ensures
+    c.close-visited_after.ensures c.get-yes.ensures

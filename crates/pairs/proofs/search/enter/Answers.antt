@@ -4,9 +4,9 @@ use Rattle.pairs.proofs.Marking.{enters_turn}
 use Rattle.pairs.proofs.search.enter.Goals as goal
 
 pub put-requires : goal.put-requires
-put-requires c = record { inside = omega (arith, c.node-node.ensures, digits_lt c.requires.middle-inside c.loop-state-test.true) }
+put-requires c = record { inside = omega (arith, c.node-node.ensures, digits_lt c.requires.middle_inside c.loop-state-test.true) }
 
 pub loop-state-preserved : goal.loop-state-preserved
 loop-state-preserved c =
-    enters_turn _ _ _ _ _ _ _ _ _ c.node-node.ensures c.get-reached.ensures c.step.ensures c.is-leaf-reads.ensures
+    enters_turn _ _ _ _ _ _ _ _ _ c.node-node.ensures c.get-reached.ensures c.step.ensures c.is_leaf-reads.ensures
     c.loop-state.invariant c.put.ensures

@@ -1,8 +1,8 @@
 -- How a row under construction becomes longer. Not here: which bytes are written (specs/Built).
-use Rattle.std.proofs.Common.{◌≡◌, ℕ, ◌+◌, ◌-◌, ◌^◌, ◌<◌, ◌≤◌, min, List, [], ◌∷◌, ◌++◌, length, take, drop, ap, ◌∙◌, ap₂, append_assoc, append-nil, arith, length-append, length-drop, take-append-drop}
+use Rattle.std.proofs.Common.{◌≡◌, ℕ, ◌+◌, ◌-◌, ◌^◌, ◌≤◌, min, List, [], ◌∷◌, ◌++◌, length, take, drop, ap, ◌∙◌, ap₂, append_assoc, append-nil, arith, length-append, length-drop, take-append-drop}
 use Rattle.std.proofs.lemmas.List.{take_all, take_at, drop_at, take-append-le, drop-append-le}
 use Rattle.std.specs.List.{insert, between}
-use Rattle.notation.specs.Built.{Stands, Becomes}
+use Rattle.notation.specs.Built.{Becomes}
 
 -- k bytes more, which are written wherever the row still fits.
 pub longer : (f : List ℕ → List ℕ) (k : ℕ) (bytes bytes' : List ℕ) (total total' : ℕ) → ((s : List ℕ) → length (f s) ≡ length s + k) → total' ≡ min (total + k) (2 ^ 64 - 1) → (total + k ≤ 1024 → bytes' ≡ f bytes) → Becomes bytes total bytes' total' f

@@ -1,5 +1,5 @@
 -- A row under construction, of which only the length is kept once it is longer than 1,024 bytes.
-use Rattle.std.specs.Prelude.{◌≡◌, ℕ, ◌-◌, ◌^◌, ◌≤◌, min, List, [], ◌∷◌, ◌++◌, length}
+use Rattle.std.specs.Prelude.{◌≡◌, ℕ, ◌-◌, ◌^◌, ◌≤◌, min, List, length}
 
 -- The bytes kept and the length kept stand for the row s.
 pub record Stands (bytes : List ℕ) (total : ℕ) (s : List ℕ) : Type 0 where

@@ -1,5 +1,5 @@
 -- What is written into a row: the forms that have no parts in the notation.
-use Rattle.std.specs.Prelude.{ℕ, ◌≤◌, List, [], ◌∷◌, ◌++◌, vec_items}
+use Rattle.std.specs.Prelude.{ℕ, ◌≤◌, List, [], ◌∷◌, vec_items}
 use Rattle.lens.specs.Forms.{Text, Form, empty, one, seq}
 use Rattle.notation.specs.declared.row.Row.{Row}
 use Rattle.notation.specs.Built.{Becomes}

@@ -4,10 +4,10 @@ use Rattle.rows.specs.Rows.{form_row}
 use Rattle.notation.proofs.Spelling.{grown_none, grown_then, grown_as, letters, letters_more, spelled_none, spelled_all}
 use Rattle.notation.proofs.forms.literal.Goals as goal
 
-pub returns-in-default : goal.returns-in-default
-returns-in-default c =
-    let pushed = c.in-ok-push.ensures in
-    grown_as (spelled_none _ c.in-default.ensures.cases) (record { grows = pushed.grows; becomes = pushed.becomes })
+pub returns-in_default : goal.returns-in_default
+returns-in_default c =
+    let pushed = c.in_ok-push.ensures in
+    grown_as (spelled_none _ c.in_default.ensures.cases) (record { grows = pushed.grows; becomes = pushed.becomes })
 
 pub loop-byte-init : goal.loop-byte-init
 loop-byte-init c = grown_none c.args.row.now
@@ -16,10 +16,10 @@ pub loop-byte-preserved : goal.loop-byte-preserved
 loop-byte-preserved c =
     let front = c.in-Some.front.now in
     let i = c.loop-byte.byte-index in
-    let pushed = c.in-ok-push-2.ensures in
+    let pushed = c.in_ok-push-2.ensures in
     grown_as (letters_more front i c.loop-byte-test.true)
     (grown_then (letters (take i front)) (2 ∷ 1 ∷ get_or front i 0 ∷ get_or front i 0 ∷ []) c.loop-byte.invariant
-    (grown_then (2 ∷ []) (1 ∷ get_or front i 0 ∷ get_or front i 0 ∷ []) (record { grows = pushed.grows; becomes = pushed.becomes }) c.in-ok-range.ensures))
+    (grown_then (2 ∷ []) (1 ∷ get_or front i 0 ∷ get_or front i 0 ∷ []) (record { grows = pushed.grows; becomes = pushed.becomes }) c.in_ok-range.ensures))
 
 pub returns : goal.returns
 returns c =
@@ -27,4 +27,4 @@ returns c =
     let last = c.in-Some.last.now in
     let i = c.loop-byte.byte-index in
     grown_as (spelled_all _ front last i c.in-Some.ensures.cases.0 c.loop-byte-test.false)
-    (grown_then (letters (take i front)) (form_row (one last last)) c.loop-byte.invariant c.in-ok-range-2.ensures)
+    (grown_then (letters (take i front)) (form_row (one last last)) c.loop-byte.invariant c.in_ok-range-2.ensures)

@@ -4,9 +4,9 @@ use Rattle.notation.proofs.forms.more.Goals as goal
 
 pub returns : goal.returns
 returns c =
-    let first = c.in-ok-repeat.ensures in
-    let second = c.in-ok-tag.ensures in
-    let third = c.in-ok-tag-2.ensures in
+    let first = c.in_ok-repeat.ensures in
+    let second = c.in_ok-tag.ensures in
+    let third = c.in_ok-tag-2.ensures in
     record {
       grows = omega (arith, first.grows, second.grows, third.grows);
       becomes = form_more c.args.at c.len-end.result c.requires c.len-end.ensures first.becomes second.becomes third.becomes;

@@ -11,8 +11,8 @@ loop-byte-preserved c =
     let before = take (c.min.result - 0) c.args.text.now in
     let i = c.loop-byte.byte-index in
     elim c.if-byte-eq10.branch [
-      | then-byte-eq10 w ↦ behind_newline before i c.loop-byte-test.true w.if-byte-eq10.true (w.line_is ∙ w.saturating-add-line.ensures) w.column_is c.loop-byte.invariant
-      | else-byte-eq10 w ↦ behind_other before i c.loop-byte-test.true w.if-byte-eq10.false w.line_is (w.column_is ∙ w.saturating-add-column.ensures) c.loop-byte.invariant
+      | then-byte-eq10 w ↦ behind_newline before i c.loop-byte-test.true w.if-byte-eq10.true (w.line-is ∙ w.saturating_add-line.ensures) w.column-is c.loop-byte.invariant
+      | else-byte-eq10 w ↦ behind_other before i c.loop-byte-test.true w.if-byte-eq10.false w.line-is (w.column-is ∙ w.saturating_add-column.ensures) c.loop-byte.invariant
     ]
 
 pub returns : goal.returns

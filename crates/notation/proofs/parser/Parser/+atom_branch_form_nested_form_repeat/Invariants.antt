@@ -15,8 +15,8 @@ decreases-repeat l = 5 * l.depth + 2
 abbrev pub decreases-atom : goal.decreases-atom
 decreases-atom l = 5 * l.depth + 1
 
-abbrev pub decreases-nested-form : goal.decreases-nested-form
-decreases-nested-form l = 5 * l.depth
+abbrev pub decreases-nested_form : goal.decreases-nested_form
+decreases-nested_form l = 5 * l.depth
 
 abbrev pub invariant-form-loop-self : goal.invariant-form-loop-self
 invariant-form-loop-self l = (l.at ≤ l.self.row.total) × Goes l.initial.self l.self

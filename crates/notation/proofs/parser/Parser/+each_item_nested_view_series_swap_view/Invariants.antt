@@ -18,8 +18,8 @@ decreases-swap l = 4 * l.depth
 abbrev pub decreases-each : goal.decreases-each
 decreases-each l = 4 * l.depth
 
-abbrev pub decreases-nested-view : goal.decreases-nested-view
-decreases-nested-view l = 4 * l.depth
+abbrev pub decreases-nested_view : goal.decreases-nested_view
+decreases-nested_view l = 4 * l.depth
 
 abbrev pub invariant-view-loop-self : goal.invariant-view-loop-self
 invariant-view-loop-self l = (l.at ≤ l.self.row.total) × Goes l.initial.self l.self

@@ -21,7 +21,7 @@ struct Found {
 }
 
 fn search<G: Graph>(heap: Global, g: &G, start: usize, room: usize) -> Result<Found, AllocError>
-    requires { nodes g.now < 2 ^ 32 }
+    requires { G.nodes g.now < 2 ^ 32 }
 {
     let words = g.size() / 32 + 1;
     let mut seen: Vec<u32> = vec![in heap; 0; words]?;

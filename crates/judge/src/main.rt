@@ -1,12 +1,15 @@
 // judge VIEW: says whether a view is clear. What it does is in the crate commands.
 #![tactic(auto)]
 
-use commands::Refusal;
+use std::process::ExitCode;
 
-fn main(rt: HostRuntime) -> Result<(), Refusal> {
+fn main(rt: HostRuntime) -> ExitCode {
     let said = match commands::arguments(&rt) {
         Ok(args) => commands::judge(&rt, &args),
         Err(refusal) => Err(refusal),
     };
-    commands::deliver(&rt, said)
+    match commands::deliver(&rt, said) {
+        Ok(()) => ExitCode::SUCCESS,
+        Err(_) => ExitCode::FAILURE,
+    }
 }

@@ -1,12 +1,15 @@
 // put VIEW SOURCE LOOK: prints the source that a changed look gives. What it does is in the crate commands.
 #![tactic(auto)]
 
-use commands::Refusal;
+use std::process::ExitCode;
 
-fn main(rt: HostRuntime) -> Result<(), Refusal> {
+fn main(rt: HostRuntime) -> ExitCode {
     let source = match commands::arguments(&rt) {
         Ok(args) => commands::put(&rt, &args),
         Err(refusal) => Err(refusal),
     };
-    commands::deliver(&rt, source)
+    match commands::deliver(&rt, source) {
+        Ok(()) => ExitCode::SUCCESS,
+        Err(_) => ExitCode::FAILURE,
+    }
 }

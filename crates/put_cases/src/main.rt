@@ -68,11 +68,11 @@ pub fn laws_hold(
     };
     let mut again = vec![in heap; 46u8; source.len()]?;
     let made = put(heap, row, source, &seen, &mut again, 0)?;
-    let same = made == Made::Done(source.len()) && again == source;
+    let same = made == Made::Done(source.len()) && again.as_slice() == source;
     let Some(seen) = shown(heap, row, changed)? else {
         return Ok(false);
     };
-    Ok(same && seen == look)
+    Ok(same && seen.as_slice() == look)
 }
 
 // The look of a source, if it has one.

@@ -13,4 +13,4 @@ returns c =
     c.finish.result
     c.finish.ensures
     (λ look leaves. leaves_wanted answers (vec_items look) (rw take_at at leaves))
-    (λ why none. leaves_unwanted _ answers (omega arith) why (rw c.deref-mut.ensures.len none))
+    (λ why none. leaves_unwanted _ answers (omega arith) why (rw c.deref_mut.ensures.len none))

@@ -3,8 +3,8 @@ use Rattle.trees.proofs.Tables.{row_within, tabled_all}
 use Rattle.recall.proofs.Going.{filled_none, known_behind, not_last, filled_more, room_kept}
 use Rattle.recall.proofs.pass.fill.Goals as goal
 
-pub overflow-mul-spot : goal.overflow-mul-spot
-overflow-mul-spot c = omega (arith, row_within (c.loop-i.i - 1) (length c.args.text.now) c.args.tree.now.size (omega arith))
+pub overflow_mul-spot : goal.overflow_mul-spot
+overflow_mul-spot c = omega (arith, row_within (c.loop-i.i - 1) (length c.args.text.now) c.args.tree.now.size (omega arith))
 
 pub step-state-requires : goal.step-state-requires
 step-state-requires c =
@@ -13,8 +13,8 @@ step-state-requires c =
     let inv = c.loop-i.invariant in
     record {
       ready = c.requires.ready;
-      rests-room = omega arith;
-      bits-room = omega arith;
+      rests_room = omega arith;
+      bits_room = omega arith;
       small = omega arith;
       room = room_kept inv.free c.loop-i.auto.rows c.loop-i.auto.next c.requires.room;
       recalls = inv.recalls;

@@ -5,7 +5,7 @@ use Rattle.recall.proofs.Rows.{copies_word, copies_rest}
 use Rattle.recall.proofs.slots.copy_row.Goals as goal
 
 pub loop-word-preserved : goal.loop-word-preserved
-loop-word-preserved c = copies_word (ap (λ w. c.args.slot * w) c.slot-words.ensures) c.loop-word.word (omega arith) c.loop-word.invariant c.put-bits.ensures
+loop-word-preserved c = copies_word (ap (λ w. c.args.slot * w) c.slot_words.ensures) c.loop-word.word (omega arith) c.loop-word.invariant c.put_bits.ensures
 
 pub returns-then-rest-gt0 : goal.returns-then-rest-gt0
 returns-then-rest-gt0 c =
@@ -13,4 +13,4 @@ returns-then-rest-gt0 c =
     let copied : Copies c.args.size c.args.rows.now c.args.slot c.args.bits.now c.loop-word.bits c.args.row (32 * (c.args.size / 32)) =
     subst (λ w. Copies c.args.size c.args.rows.now c.args.slot c.args.bits.now c.loop-word.bits c.args.row (32 * w)) all c.loop-word.invariant
     in
-    copies_rest (ap (λ w. c.args.slot * w) c.slot-words.ensures) (one_shl (c.args.size % 32) 32 (omega arith)) copied c.put-bits-then-rest-gt0.ensures
+    copies_rest (ap (λ w. c.args.slot * w) c.slot_words.ensures) (one_shl (c.args.size % 32) 32 (omega arith)) copied c.put_bits-then-rest-gt0.ensures

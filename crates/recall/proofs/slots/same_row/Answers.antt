@@ -3,4 +3,4 @@ use Rattle.recall.proofs.Rows.{same_words}
 use Rattle.recall.proofs.slots.same_row.Goals as goal
 
 pub returns : goal.returns
-returns c = λ yes. same_words (λ w l. c.loop-word.invariant w (omega (arith, c.slot-words-words.ensures)))
+returns c = λ yes. same_words (λ w l. c.loop-word.invariant w (omega (arith, c.slot_words-words.ensures)))

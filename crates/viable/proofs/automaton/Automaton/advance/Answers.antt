@@ -14,7 +14,7 @@ loop-state-smaller c = omega (arith, c.member-state-in-loop-state.ensures.on, c.
 pub loop-state-preserved : goal.loop-state-preserved
 loop-state-preserved c =
     let first = c.member-state-in-loop-state.ensures in (
-      advanced_on _ _ _ (first.on (omega (arith, c.loop-state-test.true))) first (advanced_more _ _ _ (c.loop-state.invariant.2 c.loop-state-test.true) c.loop-state.invariant.0 c.go-on-some.ensures),
+      advanced_on _ _ _ (first.on (omega (arith, c.loop-state-test.true))) first (advanced_more _ _ _ (c.loop-state.invariant.2 c.loop-state-test.true) c.loop-state.invariant.0 c.go_on-some.ensures),
       first.within,
       first.marked,
     )

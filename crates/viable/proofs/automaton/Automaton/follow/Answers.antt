@@ -6,6 +6,6 @@ pub loop-at-preserved : goal.loop-at-preserved
 loop-at-preserved c =
     let self = c.args.self.now in (
       follow_more self.table.now self.states self.stays self.some c.args.text.now c.loop-at-test.true c.loop-at.invariant.0
-          c.if-not-advance.ensures c.copy-from-slice.ensures.after c.close.ensures,
+          c.if-not-advance.ensures c.copy_from_slice.ensures.after c.close.ensures,
       omega (arith, c.loop-at-test.true),
     )

@@ -1,6 +1,6 @@
 -- Which views are clear: sources and looks can be cut into their parts in one way only.
 -- Each condition is about all texts. Not here: how it is decided.
-use Rattle.std.specs.Prelude.{◌≡◌, List, [], ◌∷◌, ◌++◌}
+use Rattle.std.specs.Prelude.{◌≡◌, [], ◌++◌}
 use Rattle.lens.specs.Forms.{Text, Form, Matches, many}
 use Rattle.lens.specs.Views.{View, copy, hide, then, swap, either, each, sources, looks}
 

@@ -1,7 +1,7 @@
 -- Views: how a source looks, how a source is made from a look, and how a changed look is put back.
 -- Not here: which views are clear (Clear) and what holds of those (Laws).
-use Rattle.std.specs.Prelude.{List, [], ◌∷◌, ◌++◌}
-use Rattle.lens.specs.Forms.{Text, Form, empty, one, seq, or, many, Matches, exactly}
+use Rattle.std.specs.Prelude.{[], ◌++◌}
+use Rattle.lens.specs.Forms.{Text, Form, seq, or, many, Matches, exactly}
 
 -- `copy f` shows a text of f as it is. `hide f v d` shows the text v in place of any text of f, and puts d
 -- where there was no source. `then` and `swap` show two sources that stand one after the other, swap with

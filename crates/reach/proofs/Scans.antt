@@ -1,5 +1,5 @@
 -- One turn of the scan for a fresh node.
-use Rattle.std.proofs.Common.{◌≡◌, ℕ, ◌<◌, ◌≤◌, true, false, not, ◌&&◌, List, inl, inr}
+use Rattle.std.proofs.Common.{◌≡◌, ℕ, ◌<◌, ◌≤◌, false, not, ◌&&◌, List, inl, inr}
 use Rattle.std.proofs.lemmas.Bool.{cases_order, not_from_false, and_from, both_ways}
 use Rattle.bits.specs.Bits.{bit}
 use Rattle.reach.specs.Search.{Fresh, Passes}

@@ -1,5 +1,4 @@
 -- The search came this far, and the node that it picked is fresh if there is one.
-use Rattle.std.proofs.Common.{◌-◌}
 use Rattle.bits.specs.Bits.{bit}
 use Rattle.reach.specs.Closed.{misses}
 use Rattle.reach.specs.Search.{Advances, Picks}

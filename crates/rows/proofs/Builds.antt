@@ -1,6 +1,6 @@
 -- Things that stand one after the other, and things behind a tag: from where the parts end to where the whole ends.
 -- For anything that has a row; the forms and views themselves are in Tags.
-use Rattle.std.proofs.Common.{◌≡◌, ℕ, ◌+◌, ◌<◌, ◌≤◌, List, [], ◌∷◌, ◌++◌, length, drop, Some, None, Option, sym, refl, ap, ◌∙◌, subst, append_assoc, arith}
+use Rattle.std.proofs.Common.{◌≡◌, ℕ, ◌+◌, ◌<◌, List, ◌∷◌, ◌++◌, length, drop, Some, None, Option, sym, ap, ◌∙◌, subst, append_assoc, arith}
 use Rattle.rows.specs.Stands.{Stands, Nowhere, Ends, both_row, BothFine, Heads}
 use Rattle.rows.specs.Nodes.{Tagged}
 

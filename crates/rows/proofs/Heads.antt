@@ -1,7 +1,7 @@
 -- What the bytes at one place of a row say: which node stands there, or that nothing begins there.
-use Rattle.std.proofs.Common.{◌≡◌, ℕ, suc, ◌+◌, ◌-◌, ◌<◌, ◌≤◌, ◌⊎◌, List, [], ◌∷◌, ◌++◌, length, get_or, take, drop, sym, refl, ap, ◌∙◌, subst, ap₂, inl, inr, append_assoc, add_assoc, arith, length-append, length-drop, take-append-drop, length-take-le, get_or-drop, get_or-take, drop-drop}
+use Rattle.std.proofs.Common.{◌≡◌, ℕ, suc, ◌+◌, ◌<◌, ◌≤◌, ◌⊎◌, List, [], ◌∷◌, ◌++◌, length, get_or, take, drop, sym, refl, ap, ◌∙◌, subst, ap₂, add_assoc, arith, length-append, length-drop, take-append-drop, length-take-le, get_or-drop, get_or-take, drop-drop}
 use Rattle.std.proofs.lemmas.List.{drop_more, drop_all}
-use Rattle.lens.specs.Forms.{Text, Form, empty, one}
+use Rattle.lens.specs.Forms.{Text, Form}
 use Rattle.lens.specs.Views.{View}
 use Rattle.rows.specs.Rows.{form_row, view_row, text_row, FormFine, ViewFine, TextFine, AllBytes}
 use Rattle.rows.specs.Stands.{Stands, Nowhere, Heads}

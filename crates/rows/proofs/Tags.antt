@@ -1,5 +1,5 @@
 -- The nodes of forms and views: what each tag is made of, and which thing begins with which tag.
-use Rattle.std.proofs.Common.{◌≡◌, ℕ, ◌≤◌, false, eqb, List, [], ◌∷◌, ◌++◌, sym, refl, ap, ◌∙◌, subst, append_assoc, arith, lit≤}
+use Rattle.std.proofs.Common.{◌≡◌, ℕ, ◌≤◌, false, eqb, List, [], ◌∷◌, ◌++◌, refl, lit≤}
 use Rattle.std.proofs.lemmas.Bool.{eqb-false}
 use Rattle.lens.specs.Forms.{Text, Form, empty, one, seq, or, many}
 use Rattle.lens.specs.Views.{View, copy, hide, then, swap, either, each}

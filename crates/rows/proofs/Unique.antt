@@ -1,8 +1,8 @@
 -- A row can be read in one way: nothing else begins as a form, a text or a view does.
-use Rattle.std.proofs.Common.{◌≡◌, ℕ, suc, List, [], ◌∷◌, ◌++◌, length, sym, refl, ap, ◌∙◌, ap₂, append-nil, arith}
+use Rattle.std.proofs.Common.{◌≡◌, ℕ, List, [], ◌∷◌, ◌++◌, length, sym, refl, ◌∙◌, ap₂, append-nil, arith}
 use Rattle.lens.specs.Forms.{Text, Form, empty, one, seq, or, many}
 use Rattle.lens.specs.Views.{View, copy, hide, then, swap, either, each}
-use Rattle.rows.specs.Rows.{form_row, view_row, text_row, Encodes, OneView}
+use Rattle.rows.specs.Rows.{form_row, view_row, text_row, OneView}
 use Rattle.rows.specs.declared.parts.Kind.{Kind}
 use Rattle.rows.specs.declared.parts.Kind.TheVariants.{Form as of-form, View as of-view, Text as of-text}
 use Rattle.rows.specs.Stands.{both_row}

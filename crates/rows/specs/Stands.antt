@@ -1,5 +1,5 @@
 -- What stands at a place of a row, for anything that has a row of its own.
-use Rattle.std.specs.Prelude.{◌≡◌, ℕ, ◌+◌, ◌<◌, ◌≤◌, List, [], ◌∷◌, ◌++◌, length, drop, Some, None, Option, ◌≢◌}
+use Rattle.std.specs.Prelude.{◌≡◌, ℕ, ◌+◌, ◌<◌, ◌≤◌, List, ◌++◌, length, drop, Some, None, Option, ◌≢◌}
 
 -- At place `at` of the row s stands something, and it ends at place e.
 pub record Stands {A : Type 0} (row : A → List ℕ) (fine : A → Type 0) (s : List ℕ) (at e : ℕ) : Type 0 where

@@ -8,7 +8,7 @@ use Rattle.trees.specs.declared.step.Spot.{Spot}
 use Rattle.trees.specs.Rows.{Steps, Tabled}
 use Rattle.trees.proofs.Tables.{row_end, tabled_none, tabled_more}
 use Rattle.recall.specs.declared.memory.State.{State}
-use Rattle.recall.specs.Slots.{width, slot_bit}
+use Rattle.recall.specs.Slots.{slot_bit}
 use Rattle.recall.specs.Recalls.{Recalls, Room, Known, Remembers}
 
 -- The places from i on have their rows, and the row of i is in the state's slot if that is used.

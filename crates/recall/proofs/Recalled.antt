@@ -1,5 +1,5 @@
 -- Remembered steps: that they last when slots are added, and that a step that was made can be remembered.
-use Rattle.std.proofs.Common.{◌≡◌, ℕ, ◌+◌, ◌*◌, ◌/◌, ◌<◌, ◌≤◌, Bool, true, false, not, ◌&&◌, ◌⊎◌, List, [], ◌∷◌, length, get_or, set, Decides, sym, refl, ap, ◌∙◌, subst, inl, inr, zero-le, arith, get_or-set_other, get_or-set_same}
+use Rattle.std.proofs.Common.{◌≡◌, ℕ, ◌+◌, ◌*◌, ◌<◌, ◌≤◌, Bool, false, not, ◌&&◌, List, [], ◌∷◌, length, get_or, set, Decides, sym, refl, ap, ◌∙◌, subst, inl, inr, arith, get_or-set_other, get_or-set_same}
 use borrow.Author.Tests.{clash}
 use Rattle.std.proofs.lemmas.Bool.Decides.{Decides-at}
 use Rattle.std.proofs.lemmas.Bool.{cases_eq, cases_lt}
@@ -7,12 +7,12 @@ use Rattle.lens.specs.Forms.{Text}
 use Rattle.bits.specs.Bits.{bit}
 use Rattle.trees.specs.declared.tree.Tree.{Tree}
 use Rattle.trees.specs.declared.step.Spot.{Spot}
-use Rattle.trees.specs.Rows.{Ready, Starts, Behind, Steps, row_at, row_behind}
+use Rattle.trees.specs.Rows.{Ready, Starts, Behind, Steps, row_at}
 use Rattle.trees.proofs.Within.{at_within}
 use Rattle.trees.proofs.Tables.{row_within}
 use Rattle.recall.specs.declared.memory.State.{State}
 use Rattle.recall.specs.Slots.{width, slot_bit, Keeps, Copies, Finds}
-use Rattle.recall.specs.Recalls.{Leads, Recalls, Room, Known, MadeStep, Takes, Notes, Remembers}
+use Rattle.recall.specs.Recalls.{Leads, Recalls, Known, MadeStep, Takes, Notes, Remembers}
 
 -- Rows that agree on the nodes of a tree tell the same.
 pub starts_like : {tree : Tree} {row row' : ℕ → Bool} {t : Text} → Ready tree → ((q : ℕ) → q < tree.size → row' q ≡ row q) → Starts tree row 0 t → Starts tree row' 0 t

@@ -1,4 +1,4 @@
-use Rattle.std.proofs.Common.{◌≡◌, ◌+◌, ◌-◌, ◌*◌, ◌≤◌, length, arith}
+use Rattle.std.proofs.Common.{◌≡◌, ◌+◌, ◌-◌, length, arith}
 use Rattle.trees.proofs.Tables.{row_within, tabled_all}
 use Rattle.recall.proofs.Going.{filled_none, known_behind, not_last, filled_more, room_kept}
 use Rattle.recall.proofs.pass.fill.Goals as goal

@@ -1,6 +1,6 @@
-use Rattle.std.proofs.Common.{◌+◌, ◌*◌, ap, subst, arith}
+use Rattle.std.proofs.Common.{◌+◌, ◌*◌, subst}
 use Rattle.bits.specs.Bits.{Puts}
-use Rattle.recall.proofs.Rows.{keeps_none, keeps_more}
+use Rattle.recall.proofs.Rows.{keeps_more}
 use Rattle.recall.proofs.slots.keep_row.Goals as goal
 
 pub loop-place-preserved : goal.loop-place-preserved

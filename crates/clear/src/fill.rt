@@ -74,7 +74,7 @@ fn fill_text(row: &[u8], at: usize, next: usize, table: &mut [u32]) -> Option<us
 }
 
 // Lays one side of the view at `at`.
-#[cycle(fill_choice_fill_parts_fill_series_fill_turned_fill_view)]
+#[cycle(filling)]
 pub(crate) fn fill_view(
     row: &[u8],
     at: usize,
@@ -190,7 +190,7 @@ fn fill_literal(row: &[u8], at: usize, next: usize, table: &mut [u32]) -> Option
 }
 
 // Two views, one after the other as they stand in the row.
-#[cycle(fill_choice_fill_parts_fill_series_fill_turned_fill_view)]
+#[cycle(filling)]
 fn fill_series(
     row: &[u8],
     at: usize,
@@ -227,7 +227,7 @@ fn fill_series(
 }
 
 // Two views of which the second one's texts come first, as the looks of swap do.
-#[cycle(fill_choice_fill_parts_fill_series_fill_turned_fill_view)]
+#[cycle(filling)]
 fn fill_turned(
     row: &[u8],
     at: usize,
@@ -264,7 +264,7 @@ fn fill_turned(
 }
 
 // One of two views.
-#[cycle(fill_choice_fill_parts_fill_series_fill_turned_fill_view)]
+#[cycle(filling)]
 fn fill_choice(
     row: &[u8],
     at: usize,
@@ -301,7 +301,7 @@ fn fill_choice(
 }
 
 // Any number of parts of one view, none of them empty.
-#[cycle(fill_choice_fill_parts_fill_series_fill_turned_fill_view)]
+#[cycle(filling)]
 fn fill_parts(
     row: &[u8],
     at: usize,

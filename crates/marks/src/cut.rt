@@ -11,7 +11,7 @@ use crate::cells::{add_mark, starts_at};
 use trees::{Node, Tree, node_at};
 
 // Cuts the part of the node that begins at `at`, and returns where it ends. Its own mark is made last.
-#[cycle(mark_inner_mark_part_mark_series)]
+#[cycle(marking)]
 pub(crate) fn mark_part(
     tree: &Tree,
     text: &[u8],
@@ -37,7 +37,7 @@ pub(crate) fn mark_part(
 }
 
 // Cuts what a part that is not empty is made of.
-#[cycle(mark_inner_mark_part_mark_series)]
+#[cycle(marking)]
 fn mark_inner(
     tree: &Tree,
     text: &[u8],
@@ -76,7 +76,7 @@ fn mark_inner(
 }
 
 // Cuts parts of the node one after the other, as long as another one begins.
-#[cycle(mark_inner_mark_part_mark_series)]
+#[cycle(marking)]
 fn mark_series(
     tree: &Tree,
     text: &[u8],

@@ -14,7 +14,7 @@ pub enum Kind {
 }
 
 // Where the part at `at` ends.
-#[cycle(form_end_pair_end_part_end_view_end)]
+#[cycle(ends)]
 pub(crate) fn part_end(row: &[u8], at: usize, kind: Kind) -> Option<usize>
     ensures { PartEnds kind row.now at result }
 {
@@ -26,7 +26,7 @@ pub(crate) fn part_end(row: &[u8], at: usize, kind: Kind) -> Option<usize>
 }
 
 // Where the second of two parts of one kind ends, of which the first begins at `at`.
-#[cycle(form_end_pair_end_part_end_view_end)]
+#[cycle(ends)]
 fn pair_end(row: &[u8], at: usize, kind: Kind) -> Option<usize>
     ensures { PairEnds kind row.now at result }
 {
@@ -34,7 +34,7 @@ fn pair_end(row: &[u8], at: usize, kind: Kind) -> Option<usize>
     part_end(row, second, kind)
 }
 
-#[cycle(form_end_pair_end_part_end_view_end)]
+#[cycle(ends)]
 fn form_end(row: &[u8], at: usize) -> Option<usize>
     ensures { Ends form_row FormFine row.now at result }
 {
@@ -47,7 +47,7 @@ fn form_end(row: &[u8], at: usize) -> Option<usize>
     }
 }
 
-#[cycle(form_end_pair_end_part_end_view_end)]
+#[cycle(ends)]
 fn view_end(row: &[u8], at: usize) -> Option<usize>
     ensures { Ends view_row ViewFine row.now at result }
 {

@@ -3,15 +3,15 @@ use Rattle.pairs.proofs.Tables.{bounded_zeros}
 use Rattle.clear.proofs.Telling.{lays}
 use Rattle.clear.proofs.automaton.lay.Goals as goal
 
-pub fill-view-requires : goal.fill-view-requires
-fill-view-requires c =
+pub fill_view-requires : goal.fill_view-requires
+fill_view-requires c =
     record {
       short = c.requires.short;
-      table-long = omega (arith, c.erase.auto.table);
-      next-inside = omega arith;
+      table_long = omega (arith, c.erase.auto.table);
+      next_inside = omega arith;
       bounded = bounded_zeros _ _ c.erase.ensures;
       enough = c.requires.enough;
     }
 
 pub returns : goal.returns
-returns c = record { lays = lays _ c.erase.ensures c.fill-view.ensures.fills; bounded = c.fill-view.ensures.bounded }
+returns c = record { lays = lays _ c.erase.ensures c.fill_view.ensures.fills; bounded = c.fill_view.ensures.bounded }

@@ -2,30 +2,30 @@ use Rattle.std.proofs.Common.{refl}
 use Rattle.clear.proofs.ViewNodes.{finds_hidden, hidden_nowhere, hidden_unlaid, no_form, no_shown}
 use Rattle.clear.proofs.fill.fill_hidden.Goals as goal
 
-pub returns-in-err-shown : goal.returns-in-err-shown
-returns-in-err-shown c =
+pub returns-in_err-shown : goal.returns-in_err-shown
+returns-in_err-shown c =
     record {
-      fills = rw c.from-residual.ensures (hidden_nowhere (no_form (c.in-err-shown.ensures.ends c.requires.short)));
+      fills = rw c.from_residual.ensures (hidden_nowhere (no_form (c.in_err-shown.ensures.ends c.requires.short)));
       bounded = c.requires.bounded;
     }
 
-pub returns-in-err-fresh : goal.returns-in-err-fresh
-returns-in-err-fresh c =
+pub returns-in_err-fresh : goal.returns-in_err-fresh
+returns-in_err-fresh c =
     record {
-      fills = rw c.from-residual-in-err-fresh.ensures (hidden_nowhere (no_shown (c.in-ok-shown.ensures.ends c.requires.short) (c.in-err-fresh.ensures.ends c.requires.short)));
+      fills = rw c.from_residual-in_err-fresh.ensures (hidden_nowhere (no_shown (c.in_ok-shown.ensures.ends c.requires.short) (c.in_err-fresh.ensures.ends c.requires.short)));
       bounded = c.requires.bounded;
     }
 
-pub returns-in-err-end : goal.returns-in-err-end
-returns-in-err-end c =
+pub returns-in_err-end : goal.returns-in_err-end
+returns-in_err-end c =
     record {
-      fills = rw c.from-residual-in-err-end.ensures (hidden_unlaid (c.in-ok-shown.ensures.ends c.requires.short) (c.in-ok-fresh.ensures.ends c.requires.short) c.in-err-end.ensures.fills);
-      bounded = c.in-err-end.ensures.bounded;
+      fills = rw c.from_residual-in_err-end.ensures (hidden_unlaid (c.in_ok-shown.ensures.ends c.requires.short) (c.in_ok-fresh.ensures.ends c.requires.short) c.in_err-end.ensures.fills);
+      bounded = c.in_err-end.ensures.bounded;
     }
 
 pub returns : goal.returns
 returns c =
     record {
-      fills = finds_hidden (c.in-ok-shown.ensures.ends c.requires.short) (c.in-ok-fresh.ensures.ends c.requires.short) c.put-step.ensures c.in-ok-fill-form.ensures.fills c.in-ok-end.ensures.fills c.meets-fits.ensures refl;
-      bounded = c.in-ok-end.ensures.bounded;
+      fills = finds_hidden (c.in_ok-shown.ensures.ends c.requires.short) (c.in_ok-fresh.ensures.ends c.requires.short) c.put_step.ensures c.in_ok-fill_form.ensures.fills c.in_ok-end.ensures.fills c.meets-fits.ensures refl;
+      bounded = c.in_ok-end.ensures.bounded;
     }

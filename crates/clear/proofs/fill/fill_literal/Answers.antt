@@ -2,30 +2,30 @@ use Rattle.std.proofs.Common.{refl}
 use Rattle.clear.proofs.ViewNodes.{finds_literal, literal_nowhere, no_form, no_shown, no_fresh}
 use Rattle.clear.proofs.fill.fill_literal.Goals as goal
 
-pub returns-in-err-shown : goal.returns-in-err-shown
-returns-in-err-shown c =
+pub returns-in_err-shown : goal.returns-in_err-shown
+returns-in_err-shown c =
     record {
-      fills = rw c.from-residual.ensures (literal_nowhere (no_form (c.in-err-shown.ensures.ends c.requires.short)));
+      fills = rw c.from_residual.ensures (literal_nowhere (no_form (c.in_err-shown.ensures.ends c.requires.short)));
       bounded = c.requires.bounded;
     }
 
-pub returns-in-err-fresh : goal.returns-in-err-fresh
-returns-in-err-fresh c =
+pub returns-in_err-fresh : goal.returns-in_err-fresh
+returns-in_err-fresh c =
     record {
-      fills = rw c.from-residual-in-err-fresh.ensures (literal_nowhere (no_shown (c.in-ok-shown.ensures.ends c.requires.short) (c.in-err-fresh.ensures.ends c.requires.short)));
+      fills = rw c.from_residual-in_err-fresh.ensures (literal_nowhere (no_shown (c.in_ok-shown.ensures.ends c.requires.short) (c.in_err-fresh.ensures.ends c.requires.short)));
       bounded = c.requires.bounded;
     }
 
-pub returns-in-err-end : goal.returns-in-err-end
-returns-in-err-end c =
+pub returns-in_err-end : goal.returns-in_err-end
+returns-in_err-end c =
     record {
-      fills = rw c.from-residual-in-err-end.ensures (literal_nowhere (no_fresh (c.in-ok-shown.ensures.ends c.requires.short) (c.in-ok-fresh.ensures.ends c.requires.short) (c.in-err-end.ensures.ends c.requires.short)));
+      fills = rw c.from_residual-in_err-end.ensures (literal_nowhere (no_fresh (c.in_ok-shown.ensures.ends c.requires.short) (c.in_ok-fresh.ensures.ends c.requires.short) (c.in_err-end.ensures.ends c.requires.short)));
       bounded = c.requires.bounded;
     }
 
 pub returns : goal.returns
 returns c =
     record {
-      fills = finds_literal (c.in-ok-shown.ensures.ends c.requires.short) (c.in-ok-fresh.ensures.ends c.requires.short) (c.in-ok-end.ensures.ends c.requires.short) c.put-step.ensures c.in-ok-fill-text.ensures.fills refl refl;
-      bounded = c.in-ok-fill-text.ensures.bounded;
+      fills = finds_literal (c.in_ok-shown.ensures.ends c.requires.short) (c.in_ok-fresh.ensures.ends c.requires.short) (c.in_ok-end.ensures.ends c.requires.short) c.put_step.ensures c.in_ok-fill_text.ensures.fills refl refl;
+      bounded = c.in_ok-fill_text.ensures.bounded;
     }

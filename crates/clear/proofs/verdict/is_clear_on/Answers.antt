@@ -3,14 +3,14 @@ use Rattle.pairs.proofs.Tables.{bounded_zeros}
 use Rattle.clear.proofs.Telling.{tells_some, tells_none, room_enough}
 use Rattle.clear.proofs.verdict.is_clear_on.Goals as goal
 
-pub fill-view-requires : goal.fill-view-requires
-fill-view-requires c =
+pub fill_view-requires : goal.fill_view-requires
+fill_view-requires c =
     record {
       short = c.requires.short;
-      table-long = omega (arith, c.split-at-mut-table.ensures.front-len, c.erase.auto.table);
-      next-inside = omega arith;
+      table_long = omega (arith, c.split_at_mut-table.ensures.front_len, c.erase.auto.table);
+      next_inside = omega arith;
       bounded = bounded_zeros _ _ c.erase.ensures;
-      enough = omega (arith, room_enough (length c.args.row.now) (length c.args.work.now) c.requires.short c.requires.enough, c.split-at-mut-table.ensures.back_len);
+      enough = omega (arith, room_enough (length c.args.row.now) (length c.args.work.now) c.requires.short c.requires.enough, c.split_at_mut-table.ensures.back_len);
     }
 
 pub returns-in-Some : goal.returns-in-Some

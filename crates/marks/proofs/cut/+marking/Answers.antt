@@ -3,7 +3,7 @@ use Rattle.trees.specs.Nodes.{Under}
 use Rattle.trees.proofs.Tables.{row_within}
 use Rattle.marks.proofs.Places.{here_inside, here_under, here_none, here_empty, here_byte, here_first, here_second, here_left, here_right, here_many, here_same, inner_ends, here_more, more_moves, here_behind}
 use Rattle.marks.proofs.Passing.{fresh_later, fresh_behind, passes_none, passes_some, passes_node, passes_one, passes_byte, passes_seq, passes_left, passes_right, passes_many, passes_same, run_more, run_fresh, run_all}
-use Rattle.marks.proofs.cut.+mark_inner_mark_part_mark_series.Goals as goal
+use Rattle.marks.proofs.cut.+marking.Goals as goal
 
 -- A part stands behind its node.
 falls : {n q x t : ℕ} {words : List ℕ} → Under n words q x → 3 * (n - q) ≡ t → 3 * (n - x) + 2 < t

@@ -1,6 +1,6 @@
 -- A part begins behind its node's tag, so the row that is left falls; at one place a pair asks for a part, and that for a form or a view.
 use Rattle.std.proofs.Common.{◌+◌, ◌-◌, ◌*◌, length}
-use Rattle.rows.proofs.parts.+form_end_pair_end_part_end_view_end.Given as goal
+use Rattle.rows.proofs.parts.+ends.Given as goal
 
 abbrev pub decreases-form_end : goal.decreases-form_end
 decreases-form_end l = 3 * (length l.row.now - l.at)

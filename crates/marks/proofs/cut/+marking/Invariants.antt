@@ -3,7 +3,7 @@
 use Rattle.std.proofs.Common.{◌+◌, ◌-◌, ◌*◌, length}
 use Rattle.marks.specs.Passes.{HereSeries}
 use Rattle.marks.proofs.Passing.{Run}
-use Rattle.marks.proofs.cut.+mark_inner_mark_part_mark_series.Given as goal
+use Rattle.marks.proofs.cut.+marking.Given as goal
 
 abbrev pub decreases-mark_inner : goal.decreases-mark_inner
 decreases-mark_inner l = 3 * (l.tree.now.size - l.place)

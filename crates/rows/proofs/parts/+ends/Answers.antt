@@ -7,7 +7,7 @@ use Rattle.rows.specs.Nodes.{IsFormNode}
 use Rattle.rows.proofs.Builds.{stands_heads, nowhere_first, ends_both, nowhere_tagged, ends_tagged}
 use Rattle.rows.proofs.Tags.{builds_seq, builds_or, builds_many, builds_copy, builds_hide, builds_then, builds_swap, builds_either, builds_each}
 use Rattle.rows.proofs.Unique.{splits_form, splits_part}
-use Rattle.rows.proofs.parts.+form_end_pair_end_part_end_view_end.Goals as goal
+use Rattle.rows.proofs.parts.+ends.Goals as goal
 
 -- Forms
 pub form_end-returns-in-One : goal.form_end-returns-in-One

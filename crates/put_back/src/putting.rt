@@ -10,7 +10,7 @@ use walk::{CutText, Sink, give_part, turn};
 
 // Gives the source that comes of the part `new` of the look, put back into the part `old` of the source, by the view at
 // `place`.
-#[cycle(put_each_put_next_put_part)]
+#[cycle(putting)]
 pub fn put_part<S: Sink>(
     row: &[u8],
     source: &CutText,
@@ -65,7 +65,7 @@ pub fn put_part<S: Sink>(
 
 // The same of any number of parts of the view at `place`: the first part of the look into the first part of the source,
 // and so on. Parts of the source that are left over fall away.
-#[cycle(put_each_put_next_put_part)]
+#[cycle(putting)]
 fn put_each<S: Sink>(
     row: &[u8],
     source: &CutText,
@@ -95,7 +95,7 @@ fn put_each<S: Sink>(
 
 // Puts one part of the look into the next part of the source, or makes a source of it if none is left. Returns where the
 // source goes on.
-#[cycle(put_each_put_next_put_part)]
+#[cycle(putting)]
 fn put_next<S: Sink>(
     row: &[u8],
     source: &CutText,

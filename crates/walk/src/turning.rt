@@ -11,7 +11,7 @@ use clear::Side;
 use rows::{ViewNode, view_node};
 
 // Gives what the part of the view at `place`, from `at` to `end` of the text, turns into on the other side.
-#[cycle(turn_turn_each)]
+#[cycle(turning)]
 pub fn turn<S: Sink>(row: &[u8], cut: &CutText, place: usize, at: usize, end: usize, sink: &mut S)
     requires short { length row.now ≤ 1024 }
     requires sound { Sound cut.now }
@@ -50,7 +50,7 @@ pub fn turn<S: Sink>(row: &[u8], cut: &CutText, place: usize, at: usize, end: us
 }
 
 // Gives what the parts of the view at `place` turn into, one after the other, from `at` to `end` of the text.
-#[cycle(turn_turn_each)]
+#[cycle(turning)]
 fn turn_each<S: Sink>(row: &[u8], cut: &CutText, place: usize, at: usize, end: usize, sink: &mut S)
     requires short { length row.now ≤ 1024 }
     requires sound { Sound cut.now }

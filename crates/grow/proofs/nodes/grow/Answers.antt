@@ -2,4 +2,4 @@ use Rattle.grow.proofs.EachKind.{tree_grown}
 use Rattle.grow.proofs.nodes.grow.Goals as goal
 
 pub returns : goal.returns
-returns c = tree_grown c.erase.ensures c.grow-view.ensures
+returns c = tree_grown c.erase.ensures c.grow_view.ensures

@@ -4,7 +4,7 @@ use Rattle.put_back.proofs.Descending.{falls, source_piece, look_piece}
 use Rattle.put_back.proofs.Joining.{copy_puts, hide_puts, then_puts, swap_puts, left_puts, right_puts, to_left_puts, to_right_puts, each_puts}
 use Rattle.put_back.proofs.Going.{walks_inside, go_first, go_second, go_swapped_first, go_swapped_second, both_inside, go_left, go_right, go_to_left, go_to_right, go_parts, go_next, go_part}
 use Rattle.put_back.proofs.Series.{next_made, next_put, all_none, all_more, all_done}
-use Rattle.put_back.proofs.putting.+put_each_put_next_put_part.Goals as goal
+use Rattle.put_back.proofs.putting.+putting.Goals as goal
 
 -- Views without views in them
 

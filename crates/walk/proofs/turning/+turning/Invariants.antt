@@ -4,7 +4,7 @@ use Rattle.std.proofs.Common.{◌+◌, ◌-◌, ◌*◌, ◌≤◌, length}
 use Rattle.lens.specs.Views.{View, each}
 use Rattle.walk.specs.Turns.{Turns, Gives, slice}
 use Rattle.walk.specs.Walks.{Series}
-use Rattle.walk.proofs.turning.+turn_turn_each.Given as goal
+use Rattle.walk.proofs.turning.+turning.Given as goal
 
 abbrev pub decreases-turn : goal.decreases-turn
 decreases-turn g l = 2 * (length l.row.now - l.place)

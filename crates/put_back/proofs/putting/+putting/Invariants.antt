@@ -5,7 +5,7 @@ use Rattle.lens.specs.Views.{View}
 use Rattle.walk.specs.Turns.{slice}
 use Rattle.walk.specs.Walks.{Series}
 use Rattle.put_back.specs.Pairs.{SeriesBoth, Putting}
-use Rattle.put_back.proofs.putting.+put_each_put_next_put_part.Given as goal
+use Rattle.put_back.proofs.putting.+putting.Given as goal
 
 abbrev pub decreases-put-part : goal.decreases-put-part
 decreases-put-part g l = 3 * (length l.row.now - l.place)

@@ -2,7 +2,7 @@ use Rattle.std.proofs.Common.{◌≡◌, ◌+◌, ◌-◌, ◌*◌, ◌<◌, len
 use Rattle.walk.proofs.Descending.{walk_piece, first_walks}
 use Rattle.walk.proofs.Giving.{copy_gives, hide_gives, then_gives, swap_gives, left_gives, right_gives, each_gives, none_gives, more_gives, all_gives}
 use Rattle.walk.proofs.Going.{falls, walks_inside, go_first, go_second, go_front, go_back, go_left, go_right, choice_inside, go_parts, go_part}
-use Rattle.walk.proofs.turning.+turn_turn_each.Goals as goal
+use Rattle.walk.proofs.turning.+turning.Goals as goal
 
 -- Views without views in them
 

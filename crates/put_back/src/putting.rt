@@ -23,7 +23,7 @@ pub fn put_part<S: Sink>(
     requires short { length row.now ≤ 1024 }
     requires pair { Pair source.now look.now }
     requires walks { WalksBoth row.now source.now look.now place old new }
-    ensures { (v : View) → WalkBoth row.now source.now look.now place old new v → Gives (Puts v (in_span look.now new) (in_span source.now old)) (took sink.old sink.new) }
+    ensures { (v : View) → WalkBoth row.now source.now look.now place old new v → Gives (Puts v (in_span look.now new) (in_span source.now old)) (S.took sink.old sink.new) }
 {
     let Some(node) = view_node(row, place) else {
         return;
@@ -78,7 +78,7 @@ fn put_each<S: Sink>(
     requires short { length row.now ≤ 1024 }
     requires pair { Pair source.now look.now }
     requires parts { SomeSeriesBoth row.now source.now look.now place old new }
-    ensures { (l : View) → SeriesBoth row.now source.now look.now place old new l → Gives (Puts (each l) (in_span look.now new) (in_span source.now old)) (took sink.old sink.new) }
+    ensures { (l : View) → SeriesBoth row.now source.now look.now place old new l → Gives (Puts (each l) (in_span look.now new) (in_span source.now old)) (S.took sink.old sink.new) }
 {
     let mut from = old.at;
     let mut to = new.at;
@@ -108,7 +108,7 @@ fn put_next<S: Sink>(
     requires short { length row.now ≤ 1024 }
     requires pair { Pair source.now look.now }
     requires next { SomeNext row.now source.now look.now place rest part }
-    ensures { (l : View) → NextBoth row.now source.now look.now place rest part l → PutNext row.now source.now look.now place rest part l (took sink.old sink.new) result }
+    ensures { (l : View) → NextBoth row.now source.now look.now place rest part l → PutNext row.now source.now look.now place rest part l (S.took sink.old sink.new) result }
 {
     if rest.at >= rest.end {
         turn(row, look, place, part.at, part.end, sink);

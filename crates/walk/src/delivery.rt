@@ -19,13 +19,13 @@ pub trait Give {
 
     fn give<S: Sink>(&self, sink: &mut S)
         requires { can self.now }
-        ensures { Gives (gives self.now) (S.Sink.took sink.old sink.new) };
+        ensures { Gives (gives self.now) (S.took sink.old sink.new) };
 }
 
 // Writes what is given at the front of `out` and says how many bytes that are, or writes nothing if there are too many.
 pub fn deliver<G: Give>(given: &G, out: &mut [u8]) -> Option<usize>
-    requires { G.Give.can given.now }
-    ensures { Delivers (G.Give.gives given.now) out.old out.new result }
+    requires { G.can given.now }
+    ensures { Delivers (G.gives given.now) out.old out.new result }
 {
     let mut count = Count { bytes: 0 };
     given.give(&mut count);

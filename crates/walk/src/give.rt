@@ -14,7 +14,7 @@ use rows::{Kind, part_end};
 pub fn give_part<S: Sink>(bytes: &[u8], at: usize, end: usize, sink: &mut S)
     requires ordered { at ≤ «end» }
     requires inside { «end» ≤ length bytes.now }
-    ensures { took sink.old sink.new (slice bytes.now at «end») }
+    ensures { S.took sink.old sink.new (slice bytes.now at «end») }
 {
     sink.take(&bytes[at..end]);
 }
@@ -23,7 +23,7 @@ pub fn give_part<S: Sink>(bytes: &[u8], at: usize, end: usize, sink: &mut S)
 // there was none.
 pub(crate) fn give_hidden<S: Sink>(row: &[u8], side: Side, form: usize, sink: &mut S)
     requires short { length row.now ≤ 1024 }
-    ensures { (p : Hidden) (e : ℕ) → Laid hidden_row HiddenFine row.now form e p → took sink.old sink.new (other_text side p.1.0 p.1.1) }
+    ensures { (p : Hidden) (e : ℕ) → Laid hidden_row HiddenFine row.now form e p → S.took sink.old sink.new (other_text side p.1.0 p.1.1) }
 {
     let Some(shown) = part_end(row, form, Kind::Form) else {
         return;
@@ -40,7 +40,7 @@ pub(crate) fn give_hidden<S: Sink>(row: &[u8], side: Side, form: usize, sink: &m
 // Gives the text at `at`, without its length.
 fn give_text<S: Sink>(row: &[u8], at: usize, sink: &mut S)
     requires short { length row.now ≤ 1024 }
-    ensures { (v : Text) (e : ℕ) → Laid text_row TextFine row.now at e v → took sink.old sink.new v }
+    ensures { (v : Text) (e : ℕ) → Laid text_row TextFine row.now at e v → S.took sink.old sink.new v }
 {
     let Some(end) = part_end(row, at, Kind::Text) else {
         return;

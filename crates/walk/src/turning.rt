@@ -16,7 +16,7 @@ pub fn turn<S: Sink>(row: &[u8], cut: &CutText, place: usize, at: usize, end: us
     requires short { length row.now ≤ 1024 }
     requires sound { Sound cut.now }
     requires walks { Walks row.now cut.now place at «end» }
-    ensures { (v : View) → Walk row.now cut.now place at «end» v → Gives (Turns cut.now.side v (slice cut.now.text.now at «end»)) (took sink.old sink.new) }
+    ensures { (v : View) → Walk row.now cut.now place at «end» v → Gives (Turns cut.now.side v (slice cut.now.text.now at «end»)) (S.took sink.old sink.new) }
 {
     let Some(node) = view_node(row, place) else {
         return;
@@ -55,7 +55,7 @@ fn turn_each<S: Sink>(row: &[u8], cut: &CutText, place: usize, at: usize, end: u
     requires short { length row.now ≤ 1024 }
     requires sound { Sound cut.now }
     requires parts { SomeSeries row.now cut.now place at «end» }
-    ensures { (l : View) → Series row.now cut.now place at «end» l → Gives (Turns cut.now.side (each l) (slice cut.now.text.now at «end»)) (took sink.old sink.new) }
+    ensures { (l : View) → Series row.now cut.now place at «end» l → Gives (Turns cut.now.side (each l) (slice cut.now.text.now at «end»)) (S.took sink.old sink.new) }
 {
     let mut from = at;
     'parts: while from < end {

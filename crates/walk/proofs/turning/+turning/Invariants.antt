@@ -9,14 +9,14 @@ use Rattle.walk.proofs.turning.+turning.Given as goal
 abbrev pub decreases-turn : goal.decreases-turn
 decreases-turn g l = 2 * (length l.row.now - l.place)
 
-abbrev pub decreases-turn-each : goal.decreases-turn-each
-decreases-turn-each g l = 2 * (length l.row.now - l.place) + 1
+abbrev pub decreases-turn_each : goal.decreases-turn_each
+decreases-turn_each g l = 2 * (length l.row.now - l.place) + 1
 
-abbrev pub invariant-turn-each-parts : goal.invariant-turn-each-parts
-invariant-turn-each-parts g l =
+abbrev pub invariant-turn_each-parts : goal.invariant-turn_each-parts
+invariant-turn_each-parts g l =
     (v : View) → Series l.row l.cut l.place l.at l.end v →
     Series l.row l.cut l.place l.from l.end v × (l.at ≤ l.from) ×
     Gives (Turns l.cut.side (each v) (slice l.cut.text.now l.at l.from)) (g.S.Sink.took l.initial.sink l.sink)
 
-abbrev pub decreases-turn-each-parts : goal.decreases-turn-each-parts
-decreases-turn-each-parts g l = l.end - l.from
+abbrev pub decreases-turn_each-parts : goal.decreases-turn_each-parts
+decreases-turn_each-parts g l = l.end - l.from

@@ -1,11 +1,11 @@
 use Rattle.walk.proofs.Choosing.{chooses_begun, chooses_other, chooses_null}
 use Rattle.walk.proofs.cut_text.CutText.takes_first.Goals as goal
 
-pub returns-then-begins-at : goal.returns-then-begins-at
-returns-then-begins-at c = chooses_begun c.if-begins-at.ensures
+pub returns-then-begins_at : goal.returns-then-begins_at
+returns-then-begins_at c = chooses_begun c.if-begins_at.ensures
 
-pub returns-then-begins-at-2 : goal.returns-then-begins-at-2
-returns-then-begins-at-2 c = chooses_other c.if-begins-at.ensures c.if-begins-at-2.ensures
+pub returns-then-begins_at-2 : goal.returns-then-begins_at-2
+returns-then-begins_at-2 c = chooses_other c.if-begins_at.ensures c.if-begins_at-2.ensures
 
 pub returns : goal.returns
-returns c = chooses_null c.requires.sound.ready c.if-begins-at.ensures c.if-begins-at-2.ensures c.get.result c.get.ensures
+returns c = chooses_null c.requires.sound.ready c.if-begins_at.ensures c.if-begins_at-2.ensures c.get.result c.get.ensures

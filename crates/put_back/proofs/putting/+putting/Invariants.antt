@@ -7,22 +7,22 @@ use Rattle.walk.specs.Walks.{Series}
 use Rattle.put_back.specs.Pairs.{SeriesBoth, Putting}
 use Rattle.put_back.proofs.putting.+putting.Given as goal
 
-abbrev pub decreases-put-part : goal.decreases-put-part
-decreases-put-part g l = 3 * (length l.row.now - l.place)
+abbrev pub decreases-put_part : goal.decreases-put_part
+decreases-put_part g l = 3 * (length l.row.now - l.place)
 
-abbrev pub decreases-put-next : goal.decreases-put-next
-decreases-put-next g l = 3 * (length l.row.now - l.place) + 1
+abbrev pub decreases-put_next : goal.decreases-put_next
+decreases-put_next g l = 3 * (length l.row.now - l.place) + 1
 
-abbrev pub decreases-put-each : goal.decreases-put-each
-decreases-put-each g l = 3 * (length l.row.now - l.place) + 2
+abbrev pub decreases-put_each : goal.decreases-put_each
+decreases-put_each g l = 3 * (length l.row.now - l.place) + 2
 
-abbrev pub invariant-put-each-parts : goal.invariant-put-each-parts
-invariant-put-each-parts g l =
+abbrev pub invariant-put_each-parts : goal.invariant-put_each-parts
+invariant-put_each-parts g l =
     (v : View) → SeriesBoth l.row l.source l.look l.place l.old l.new v →
     Series l.row l.source l.place l.from l.old.end v × Series l.row l.look l.place l.to l.new.end v ×
     (l.old.at ≤ l.from) × (l.new.at ≤ l.to) ×
     Putting v (slice l.look.text.now l.new.at l.to) (slice l.source.text.now l.old.at l.from) (l.old.end ≤ l.from)
     (g.S.Sink.took l.initial.sink l.sink)
 
-abbrev pub decreases-put-each-parts : goal.decreases-put-each-parts
-decreases-put-each-parts g l = l.new.end - l.to
+abbrev pub decreases-put_each-parts : goal.decreases-put_each-parts
+decreases-put_each-parts g l = l.new.end - l.to

@@ -7,18 +7,18 @@ pub backward-requires : goal.backward-requires
 backward-requires c =
     let row = c.requires.clear in
     record {
-      ready = record { linked = c.grow.ensures.linked row.view row.encodes; inside = encoded_some row.encodes; nulls = c.mark-null.ensures };
+      ready = record { linked = c.grow.ensures.linked row.view row.encodes; inside = encoded_some row.encodes; nulls = c.mark_null.ensures };
       short = row.encodes.short;
-      rests-room = search rules;
-      bits-room = search rules;
+      rests_room = search rules;
+      bits_room = search rules;
       small = c.requires.small;
     }
 
-pub mark-all-requires : goal.mark-all-requires
-mark-all-requires c =
+pub mark_all-requires : goal.mark_all-requires
+mark_all-requires c =
     let row = c.requires.clear in
     record {
-      ready = record { linked = c.grow.ensures.linked row.view row.encodes; inside = encoded_some row.encodes; nulls = c.mark-null.ensures };
+      ready = record { linked = c.grow.ensures.linked row.view row.encodes; inside = encoded_some row.encodes; nulls = c.mark_null.ensures };
       grown = record { form = _; grows = c.grow.ensures.grows row.view row.encodes };
       tabled = c.backward.ensures;
       small = c.requires.small;
@@ -28,12 +28,12 @@ mark-all-requires c =
 pub returns : goal.returns
 returns c =
     let row = c.requires.clear in
-    let marked = c.if-not-mark-all.ensures in
+    let marked = c.if-not-mark_all.ensures in
     record {
       side_is = refl;
       text_is = refl;
       sound = record {
-        ready = record { linked = c.grow.ensures.linked row.view row.encodes; inside = encoded_some row.encodes; nulls = c.mark-null.ensures };
+        ready = record { linked = c.grow.ensures.linked row.view row.encodes; inside = encoded_some row.encodes; nulls = c.mark_null.ensures };
         tabled = c.backward.ensures;
         small = c.requires.small;
       };

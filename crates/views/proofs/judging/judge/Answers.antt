@@ -5,11 +5,11 @@ use Rattle.views.proofs.judging.judge.Goals as goal
 pub returns-then-work-floor : goal.returns-then-work-floor
 returns-then-work-floor c = judged_few (omega arith)
 
-pub returns-then-not-is-view : goal.returns-then-not-is-view
-returns-then-not-is-view c = judged_no_view (omega arith) c.if-not-is-view.ensures
+pub returns-then-not-is_view : goal.returns-then-not-is_view
+returns-then-not-is_view c = judged_no_view (omega arith) c.if-not-is_view.ensures
 
-pub returns-then-is-clear : goal.returns-then-is-clear
-returns-then-is-clear c = judged_plain (omega arith) c.if-not-is-view.ensures c.is-clear.ensures c.if-is-clear.true
+pub returns-then-is_clear : goal.returns-then-is_clear
+returns-then-is_clear c = judged_plain (omega arith) c.if-not-is_view.ensures c.is_clear.ensures c.if-is_clear.true
 
-pub returns-else-is-clear : goal.returns-else-is-clear
-returns-else-is-clear c = judged_unclear (omega arith) c.if-not-is-view.ensures c.is-clear.ensures c.if-is-clear.false
+pub returns-else-is_clear : goal.returns-else-is_clear
+returns-else-is_clear c = judged_unclear (omega arith) c.if-not-is_view.ensures c.is_clear.ensures c.if-is_clear.false

@@ -7,7 +7,7 @@ use Rattle.clear.specs.declared.side.Side.TheVariants.{Source, Look}
 use Rattle.clear.specs.Sides.{side_form}
 use Rattle.walk.specs.declared.cut_text.CutText.{CutText}
 use Rattle.walk.specs.Turns.{front, back}
-use Rattle.walk.specs.Walks.{Ends, Takes, Walk}
+use Rattle.walk.specs.CutWalks.{Ends, Takes, CutWalk}
 use Rattle.walk.proofs.Descending.{Two, walk_piece, then_walks, swap_walks, left_walks, right_walks, each_walks}
 use Rattle.walk.proofs.Giving.{same_view}
 use Rattle.put_back.specs.declared.span.Span.{Span}
@@ -42,21 +42,21 @@ module _ {row : List ℕ} {source look : CutText} (pair : Pair source look) wher
 
   -- The looks of swap stand in the other order.
   source_swap : {place first second i m e : ℕ} {v : View} (two : Two swap row first second v) → first ≡ place + 1 → Ends source first i m →
-      Walk row source place i e v → Walk row source first i m two.one × Walk row source second m e two.other
+      CutWalk row source place i e v → CutWalk row source first i m two.one × CutWalk row source second m e two.other
   source_swap {first = first} {second} {i} {m} {e} two behind ends w =
       let order = subst (λ s. ◌≡◌ {A = ℕ × ℕ} (first, second) (front s first second, back s first second)) (sym pair.source_side) refl in
       let (a, b) = swap_walks pair.source_sound two behind order ends w in (
-        subst (λ s. Walk row source first i m (front s two.one two.other)) pair.source_side a,
-        subst (λ s. Walk row source second m e (back s two.one two.other)) pair.source_side b,
+        subst (λ s. CutWalk row source first i m (front s two.one two.other)) pair.source_side a,
+        subst (λ s. CutWalk row source second m e (back s two.one two.other)) pair.source_side b,
       )
 
   look_swap : {place first second i m e : ℕ} {v : View} (two : Two swap row first second v) → first ≡ place + 1 → Ends look second i m →
-      Walk row look place i e v → Walk row look first m e two.one × Walk row look second i m two.other
+      CutWalk row look place i e v → CutWalk row look first m e two.one × CutWalk row look second i m two.other
   look_swap {first = first} {second} {i} {m} {e} two behind ends w =
       let order = subst (λ s. ◌≡◌ {A = ℕ × ℕ} (second, first) (front s first second, back s first second)) (sym pair.look_side) refl in
       let (a, b) = swap_walks pair.look_sound two behind order ends w in (
-        subst (λ s. Walk row look first m e (back s two.one two.other)) pair.look_side b,
-        subst (λ s. Walk row look second i m (front s two.one two.other)) pair.look_side a,
+        subst (λ s. CutWalk row look first m e (back s two.one two.other)) pair.look_side b,
+        subst (λ s. CutWalk row look second i m (front s two.one two.other)) pair.look_side a,
       )
 
   pub swap_both : {place first second m n : ℕ} {old new : Span} {v : View} (two : Two swap row first second v) → first ≡ place + 1 →

@@ -3,7 +3,7 @@ use Rattle.std.proofs.Common.{◌≡◌, ℕ, ◌<◌, ◌≤◌, true, false, L
 use Rattle.lens.specs.Views.{View}
 use Rattle.rows.specs.Nodes.{Tagged}
 use Rattle.walk.specs.declared.cut_text.CutText.{CutText}
-use Rattle.walk.specs.Walks.{Ends, other_part, Takes, Walks}
+use Rattle.walk.specs.CutWalks.{Ends, other_part, Takes, CutWalks}
 use Rattle.walk.proofs.Descending.{then_two, swap_two, either_two, first_walks}
 use Rattle.walk.proofs.Going.{two_behind, choice_inside}
 use Rattle.put_back.specs.declared.span.Span.{Span}
@@ -64,12 +64,12 @@ module _ {row : List ℕ} {source look : CutText} (pair : Pair source look) {pla
         let both : WalkBoth row source look second old new two.other = record { in_source = source_right pair two tag.behind w.both old-right; in_look = look_right pair two tag.behind w.both new-right } in
         (record { view = two.other; both = both }, (two_behind two tag.behind).1)
 
-    pub go_to_left : Takes look first second new.at true → Walks row look first new.at new.end
+    pub go_to_left : Takes look first second new.at true → CutWalks row look first new.at new.end
     go_to_left new-left =
         let two = either_two found tag w.both.in_source in
         record { view = two.one; walk = look_left pair two tag.behind w.both new-left }
 
-    pub go_to_right : Takes look first second new.at false → Walks row look second new.at new.end
+    pub go_to_right : Takes look first second new.at false → CutWalks row look second new.at new.end
     go_to_right new-right =
         let two = either_two found tag w.both.in_source in
         record { view = two.other; walk = look_right pair two tag.behind w.both new-right }

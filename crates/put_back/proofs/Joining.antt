@@ -9,9 +9,9 @@ use Rattle.rows.proofs.Tags.{builds_copy, builds_hide}
 use Rattle.clear.proofs.Laying.{laid_behind}
 use Rattle.clear.proofs.Lengths.{form_long, both_long}
 use Rattle.walk.specs.declared.cut_text.CutText.{CutText}
-use Rattle.walk.specs.Turns.{Turns, Gives, slice}
+use Rattle.walk.specs.Turns.{Turns, GivesSome, slice}
 use Rattle.walk.specs.Turned.{on_made}
-use Rattle.walk.specs.Walks.{Ends, other_part, Takes, Walk}
+use Rattle.walk.specs.CutWalks.{Ends, other_part, Takes, CutWalk}
 use Rattle.walk.proofs.Pieces.{slice_both, exactly_is}
 use Rattle.walk.proofs.Descending.{then_two, swap_two, either_two}
 use Rattle.walk.proofs.Giving.{Joins}
@@ -21,14 +21,14 @@ use Rattle.put_back.proofs.Descending.{source_piece, look_piece, then_both, swap
 
 -- What comes of a part of the look and a part of the source.
 abbrev pub PartPuts : CutText → CutText → View → Span → Span → (Text → Type 0) → Type 0
-PartPuts source look v old new P = Gives (Puts v (in_span look new) (in_span source old)) P
+PartPuts source look v old new P = GivesSome (Puts v (in_span look new) (in_span source old)) P
 
 -- The same of a view or of texts that are known to be others.
-puts_view : {v v' : View} {u s : Text} {P : Text → Type 0} → v ≡ v' → Gives (Puts v' u s) P → Gives (Puts v u s) P
-puts_view {u = u} {s} {P} is g = subst (λ v. Gives (Puts v u s) P) (sym is) g
+puts_view : {v v' : View} {u s : Text} {P : Text → Type 0} → v ≡ v' → GivesSome (Puts v' u s) P → GivesSome (Puts v u s) P
+puts_view {u = u} {s} {P} is g = subst (λ v. GivesSome (Puts v u s) P) (sym is) g
 
-pub puts_texts : {v : View} {u u' s s' : Text} {P : Text → Type 0} → u ≡ u' → s ≡ s' → Gives (Puts v u' s') P → Gives (Puts v u s) P
-puts_texts {v} {u} {s' = s'} {P} is is' g = subst (λ s. Gives (Puts v u s) P) (sym is') (subst (λ u. Gives (Puts v u s') P) (sym is) g)
+pub puts_texts : {v : View} {u u' s s' : Text} {P : Text → Type 0} → u ≡ u' → s ≡ s' → GivesSome (Puts v u' s') P → GivesSome (Puts v u s) P
+puts_texts {v} {u} {s' = s'} {P} is is' g = subst (λ s. GivesSome (Puts v u s) P) (sym is') (subst (λ u. GivesSome (Puts v u s') P) (sym is) g)
 
 -- What holds at two pairs of parts holds where they are known to be other pairs.
 pub moved : {r q r' q' : Span × Span} (T : Span × Span → Span × Span → Type 0) → r ≡ q → r' ≡ q' → T r r' → T q q'
@@ -108,7 +108,7 @@ module _ {row : List ℕ} {source look : CutText} (pair : Pair source look) wher
         puts_view two.is (record { out = y.out; holds = p_right y.holds; took = y.took })
 
     pub to_left_puts : Takes look first second new.at true → Takes source first second old.at false →
-        ((k : View) → WalkIn row look first new k → Gives (Turns look.side k (in_span look new)) P) →
+        ((k : View) → WalkIn row look first new k → GivesSome (Turns look.side k (in_span look new)) P) →
         WalkBoth row source look place old new v → PartPuts source look v old new P
     to_left_puts new-left old-right one w =
         let two = either_two found tag w.in_source in
@@ -117,7 +117,7 @@ module _ {row : List ℕ} {source look : CutText} (pair : Pair source look) wher
         puts_view two.is (record { out = x.out; holds = p_to_left s (makes pair x.holds); took = x.took })
 
     pub to_right_puts : Takes look first second new.at false → Takes source first second old.at true →
-        ((l : View) → WalkIn row look second new l → Gives (Turns look.side l (in_span look new)) P) →
+        ((l : View) → WalkIn row look second new l → GivesSome (Turns look.side l (in_span look new)) P) →
         WalkBoth row source look place old new v → PartPuts source look v old new P
     to_right_puts new-right old-left other w =
         let two = either_two found tag w.in_source in

@@ -5,8 +5,8 @@ use Rattle.lens.specs.Views.{View, each, sources, Makes, Puts, p_none, p_both, p
 use Rattle.clear.specs.Sides.{side_form}
 use Rattle.marks.proofs.Cuts.{cut_ordered}
 use Rattle.walk.specs.declared.cut_text.CutText.{CutText}
-use Rattle.walk.specs.Turns.{Turns, Gives, slice}
-use Rattle.walk.specs.Walks.{Ends, Series}
+use Rattle.walk.specs.Turns.{Turns, GivesSome, slice}
+use Rattle.walk.specs.CutWalks.{Ends, CutSeries}
 use Rattle.walk.proofs.Holding.{series_piece}
 use Rattle.walk.proofs.Pieces.{slice_both, slice_none}
 use Rattle.walk.proofs.Descending.{first_walks}
@@ -23,10 +23,10 @@ puts_at {v} {u} {u'} {s} {s'} {x} a b c p = subst (λ x. Puts v u' s' x) c (subs
 putting_none : {l : View} {Used : Type 0} {P : Text → Type 0} → P [] → Putting l [] [] Used P
 putting_none given = record { out = []; took = given; goes = λ v t y c p. p }
 
-putting_both : {l : View} {u s : Text} {Used : Type 0} {P : Text → Type 0} → Gives (Puts l u s) P → Putting l u s Used P
+putting_both : {l : View} {u s : Text} {Used : Type 0} {P : Text → Type 0} → GivesSome (Puts l u s) P → Putting l u s Used P
 putting_both {u = u} {s} g = record { out = g.out; took = g.took; goes = λ v t y c p. p_both u v s t g.out y g.holds p }
 
-putting_new : {l : View} {u : Text} {Used : Type 0} {P : Text → Type 0} → Used → Gives (Makes l u) P → Putting l u [] Used P
+putting_new : {l : View} {u : Text} {Used : Type 0} {P : Text → Type 0} → Used → GivesSome (Makes l u) P → Putting l u [] Used P
 putting_new {l} {u} used g = record {
   out = g.out;
   took = g.took;
@@ -46,7 +46,7 @@ putting_more {l} {u} {u'} {s} {s'} used a b joins = record {
 }
 
 putting_done : {l : View} {u s : Text} {Used : Type 0} {P : Text → Type 0} → Putting l u s Used P → (t : Text) → Matches (many (sources l)) t →
-    (Used → t ≡ []) → Gives (Puts (each l) u (s ++ t)) P
+    (Used → t ≡ []) → GivesSome (Puts (each l) u (s ++ t)) P
 putting_done {u = u} {s} g t rest used = record {
   out = g.out;
   holds = puts_at (append-nil u) refl (append-nil g.out) (g.goes [] t [] used (p_none rest));
@@ -63,14 +63,14 @@ slice_past text i e past = let none : e - i ≡ 0 = omega arith in ap (λ n. tak
 
 module _ {row : List ℕ} {source look : CutText} (pair : Pair source look) where
   -- The parts of the source that are left
-  left_piece : {place i e : ℕ} {l : View} → Series row source place i e l → (i ≤ e) × Matches (many (sources l)) (slice source.text.now i e)
+  left_piece : {place i e : ℕ} {l : View} → CutSeries row source place i e l → (i ≤ e) × Matches (many (sources l)) (slice source.text.now i e)
   left_piece {i = i} {e} {l} s =
       let p = series_piece pair.source_sound.ready pair.source_sound.tabled s.held in
       (p.ordered, subst (λ side. Matches (many (side_form side l)) (slice source.text.now i e)) pair.source_side p.matches)
 
   -- One part of the look: made if the source is used up, and else put into the next part
   module _ {place : ℕ} {rest part : Span} {l : View} {P : Text → Type 0} where
-    pub next_made : rest.end ≤ rest.at → ((v : View) → WalkIn row look place part v → Gives (Turns look.side v (in_span look part)) P) →
+    pub next_made : rest.end ≤ rest.at → ((v : View) → WalkIn row look place part v → GivesSome (Turns look.side v (in_span look part)) P) →
         NextBoth row source look place rest part l → PutNext row source look place rest part l P rest.at
     next_made used given n =
         let g = given l n.in_look in
@@ -111,14 +111,14 @@ module _ {row : List ℕ} {source look : CutText} (pair : Pair source look) {pla
       (λ past. let same = next.used past in (omega arith, slice_past source.text.now from r (omega arith)))
       before next.puts joins)
 
-  pub all_done : {from to : ℕ} {P : Text → Type 0} → old.at ≤ from → new.end ≤ to → Series row source place from old.end l →
-      Series row look place to new.end l → PutUntil source look l old new from to P → PartPuts source look (each l) old new P
+  pub all_done : {from to : ℕ} {P : Text → Type 0} → old.at ≤ from → new.end ≤ to → CutSeries row source place from old.end l →
+      CutSeries row look place to new.end l → PutUntil source look l old new from to P → PartPuts source look (each l) old new P
   all_done {from} {to} {P} low past left rest given =
       let ordered = cut_ordered rest.held.cut in
       let same : to ≡ new.end = omega arith in
       let (fine, matches) = left_piece pair left in
       let text = source.text.now in
       let whole = slice_both text old.at from old.end low fine in
-      subst (λ to. Gives (Puts (each l) (slice look.text.now new.at to) (in_span source old)) P) same
-      (subst (λ s. Gives (Puts (each l) (slice look.text.now new.at to) s) P) (sym whole)
+      subst (λ to. GivesSome (Puts (each l) (slice look.text.now new.at to) (in_span source old)) P) same
+      (subst (λ s. GivesSome (Puts (each l) (slice look.text.now new.at to) s) P) (sym whole)
       (putting_done given (slice text from old.end) matches (λ used. slice_past text from old.end used)))

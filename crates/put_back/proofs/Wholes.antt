@@ -4,7 +4,7 @@ use Rattle.std.proofs.lemmas.List.{take_all}
 use Rattle.lens.specs.Forms.{Text}
 use Rattle.lens.specs.Views.{View, Puts}
 use Rattle.walk.specs.declared.cut_text.CutText.{CutText}
-use Rattle.walk.specs.Turns.{Gives, slice}
+use Rattle.walk.specs.Turns.{GivesSome, slice}
 use Rattle.walk.proofs.Giving.{same_view}
 use Rattle.put_back.specs.declared.span.Span.{Span}
 use Rattle.put_back.specs.Pairs.{WalkBoth}
@@ -20,7 +20,7 @@ slice_all text = sym (take_all (length text - 0) text (omega arith))
 
 pub put_whole : {row : List ℕ} {source look : CutText} {P : Text → Type 0} → CutBoth row source look →
     ((v : View) → WalkBoth row source look 0 (all_of source) (all_of look) v → PartPuts source look v (all_of source) (all_of look) P) →
-    Gives (PutWhole row source look) P
+    GivesSome (PutWhole row source look) P
 put_whole {source = source} {look} c given =
     let g = given c.view (record { in_source = c.in_source; in_look = c.in_look }) in
     let whole = puts_texts (slice_all look.text.now) (slice_all source.text.now) g in

@@ -5,7 +5,7 @@ use Rattle.lens.specs.Views.{View, each, Puts}
 use Rattle.clear.specs.declared.side.Side.TheVariants.{Source, Look}
 use Rattle.walk.specs.declared.cut_text.CutText.{CutText}
 use Rattle.walk.specs.Turns.{slice}
-use Rattle.walk.specs.Walks.{Sound, Walk, Series}
+use Rattle.walk.specs.CutWalks.{Sound, CutWalk, CutSeries}
 use Rattle.put_back.specs.declared.span.Span.{Span}
 
 -- A source and a look, both cut.
@@ -20,10 +20,10 @@ abbrev pub in_span : CutText → Span → Text
 in_span cut part = slice cut.text.now part.at part.end
 
 abbrev pub WalkIn : List ℕ → CutText → ℕ → Span → View → Type 0
-WalkIn row cut place part = Walk row cut place part.at part.end
+WalkIn row cut place part = CutWalk row cut place part.at part.end
 
 abbrev pub SeriesIn : List ℕ → CutText → ℕ → Span → View → Type 0
-SeriesIn row cut place part = Series row cut place part.at part.end
+SeriesIn row cut place part = CutSeries row cut place part.at part.end
 
 -- A part, cut in two at m.
 abbrev pub before : Span → ℕ → Span
@@ -69,7 +69,7 @@ pub record Putting (l : View) (u s : Text) (Used : Type 0) (P : Text → Type 0)
 
 -- One part of the look was put back, and the source goes on at r.
 pub record PutNext (row : List ℕ) (source look : CutText) (place : ℕ) (rest part : Span) (l : View) (P : Text → Type 0) (r : ℕ) : Type 0 where
-  pub left : Series row source place r rest.end l
+  pub left : CutSeries row source place r rest.end l
   pub onward : rest.at ≤ r
   pub used : rest.end ≤ rest.at → r ≡ rest.at
   pub puts : Putting l (in_span look part) (slice source.text.now rest.at r) (rest.end ≤ r) P

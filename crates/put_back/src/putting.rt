@@ -1,12 +1,12 @@
 // The walk over a source and a look together, by the view of a row: the new source, part by part.
 ghost use Rattle.std.specs.Prelude.{◌≡◌, ◌≤◌, length};
 ghost use Rattle.lens.specs.Views.{View, Puts, each};
-ghost use Rattle.walk.specs.Turns.{Gives};
+ghost use Rattle.walk.specs.Turns.{GivesSome};
 ghost use Rattle.put_back.specs.Pairs.{Pair, in_span, before, after, WalkBoth, WalksBoth, SeriesBoth, SomeSeriesBoth, NextBoth, SomeNext, PutNext};
 
 use crate::span::Span;
 use rows::{ViewNode, view_node};
-use walk::{CutText, Sink, give_part, turn};
+use walk::{CutText, Sink, give_part, turn_part};
 
 // Gives the source that comes of the part `new` of the look, put back into the part `old` of the source, by the view at
 // `place`.
@@ -23,7 +23,7 @@ pub fn put_part<S: Sink>(
     requires short { length row.now ≤ 1024 }
     requires pair { Pair source.now look.now }
     requires walks { WalksBoth row.now source.now look.now place old new }
-    ensures { (v : View) → WalkBoth row.now source.now look.now place old new v → Gives (Puts v (in_span look.now new) (in_span source.now old)) (S.took sink.old sink.new) }
+    ensures { (v : View) → WalkBoth row.now source.now look.now place old new v → GivesSome (Puts v (in_span look.now new) (in_span source.now old)) (S.took sink.old sink.new) }
 {
     let Some(node) = view_node(row, place) else {
         return;
@@ -51,10 +51,10 @@ pub fn put_part<S: Sink>(
                 if source.takes_first(first, second, old.at) {
                     put_part(row, source, look, first, old, new, sink);
                 } else {
-                    turn(row, look, first, new.at, new.end, sink);
+                    turn_part(row, look, first, new.at, new.end, sink);
                 }
             } else if source.takes_first(first, second, old.at) {
-                turn(row, look, second, new.at, new.end, sink);
+                turn_part(row, look, second, new.at, new.end, sink);
             } else {
                 put_part(row, source, look, second, old, new, sink);
             }
@@ -78,7 +78,7 @@ fn put_each<S: Sink>(
     requires short { length row.now ≤ 1024 }
     requires pair { Pair source.now look.now }
     requires parts { SomeSeriesBoth row.now source.now look.now place old new }
-    ensures { (l : View) → SeriesBoth row.now source.now look.now place old new l → Gives (Puts (each l) (in_span look.now new) (in_span source.now old)) (S.took sink.old sink.new) }
+    ensures { (l : View) → SeriesBoth row.now source.now look.now place old new l → GivesSome (Puts (each l) (in_span look.now new) (in_span source.now old)) (S.took sink.old sink.new) }
 {
     let mut from = old.at;
     let mut to = new.at;
@@ -111,7 +111,7 @@ fn put_next<S: Sink>(
     ensures { (l : View) → NextBoth row.now source.now look.now place rest part l → PutNext row.now source.now look.now place rest part l (S.took sink.old sink.new) result }
 {
     if rest.at >= rest.end {
-        turn(row, look, place, part.at, part.end, sink);
+        turn_part(row, look, place, part.at, part.end, sink);
         return rest.at;
     }
     let end = source.end_of(place, rest.at);

@@ -7,7 +7,7 @@ use Rattle.rows.specs.Rows.{Encodes}
 use Rattle.clear.specs.declared.side.Side.{Side}
 use Rattle.clear.specs.Sides.{side_form}
 use Rattle.walk.specs.declared.cut_text.CutText.{CutText}
-use Rattle.walk.specs.Walks.{Sound}
+use Rattle.walk.specs.CutWalks.{Sound}
 use Rattle.walk.specs.Turned.{WholeWalk}
 
 -- The row says a clear view.

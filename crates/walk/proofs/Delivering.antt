@@ -2,14 +2,14 @@
 use Rattle.std.proofs.Common.{◌≡◌, ℕ, ◌^◌, ◌<◌, ◌≤◌, List, ◌++◌, length, take, drop, sym, refl, ap, ◌∙◌, subst, inl, inr, zero-add, arith, take_at, drop_at}
 use Rattle.std.proofs.lemmas.Bool.{cases_lt}
 use Rattle.lens.specs.Forms.{Text}
-use Rattle.walk.specs.Turns.{Gives}
+use Rattle.walk.specs.Turns.{GivesSome}
 use Rattle.walk.specs.Counts.{Counted}
 use Rattle.walk.specs.Writes.{Wrote}
 use Rattle.walk.specs.Delivers.{Delivered}
 
 module _ {R : Text → Type 0} where
   pub delivered : {o o' : List ℕ} {b n : ℕ} → ((u w : Text) → R u → R w → u ≡ w) → b ≤ length o → length o < 2 ^ 63 →
-      Gives R (Counted 0 b) → Gives R (λ u. Wrote o 0 o' n u) → Delivered R o o' b
+      GivesSome R (Counted 0 b) → GivesSome R (λ u. Wrote o 0 o' n u) → Delivered R o o' b
   delivered {o} {o'} {b} {n} one room short g h = record { text = g.out; holds = g.holds; long = long; front = front; rest = rest }
     where
       long : b ≡ length g.out

@@ -20,7 +20,7 @@ use Rattle.trees.specs.Tree.{Grows, grows_same, grows_seq, grows_or, grows_many}
 use Rattle.grow.specs.Planted.{Planted, planted_copy, planted_hidden, planted_shown, planted_then, planted_swap, planted_turned, planted_either, planted_each}
 use Rattle.walk.specs.Turns.{slice, front, back}
 use Rattle.walk.specs.declared.cut_text.CutText.{CutText}
-use Rattle.walk.specs.Walks.{Sound, Ends, other_of, other_part, Walk, Series, Takes}
+use Rattle.walk.specs.CutWalks.{Sound, Ends, other_of, other_part, CutWalk, CutSeries, Takes}
 use Rattle.walk.proofs.Holding.{Held, piece, hold_seq, hold_left, hold_right, hold_many, hold_first}
 
 -- A planted view grows.
@@ -160,25 +160,25 @@ PlantedIn cut = Planted cut.tree.words.now cut.side
 
 module _ {row : List ℕ} {cut : CutText} where
   -- A part of a view, as a part of its form.
-  held : {place i e : ℕ} {v : View} {f : Form} → Walk row cut place i e v → side_form cut.side v ≡ f → HeldOf cut f place i e
+  held : {place i e : ℕ} {v : View} {f : Form} → CutWalk row cut place i e v → side_form cut.side v ≡ f → HeldOf cut f place i e
   held {place} {i} {e} w is = subst (λ f. HeldOf cut f place i e) is (record { holds = w.holds; part = w.part })
 
-  planted : {place i e : ℕ} {v v' : View} → Walk row cut place i e v → v ≡ v' → PlantedIn cut place v'
+  planted : {place i e : ℕ} {v v' : View} → CutWalk row cut place i e v → v ≡ v' → PlantedIn cut place v'
   planted {place} w is = subst (λ v. PlantedIn cut place v) is w.planted
 
   walk : {place behind i e : ℕ} {v : View} → Laid view_row ViewFine row place behind v → PlantedIn cut place v →
-      HeldOf cut (side_form cut.side v) place i e → Walk row cut place i e v
+      HeldOf cut (side_form cut.side v) place i e → CutWalk row cut place i e v
   walk l p h = record { behind = _; laid = l; planted = p; holds = h.holds; part = h.part }
 
   -- The two parts of a view, by its tag and by the tree.
   module _ {place first second i e : ℕ} {v : View} (found : second ≡ other_part cut place first) where
-    pub then_two : Tagged row place 12 first → Walk row cut place i e v → Two then row first second v
+    pub then_two : Tagged row place 12 first → CutWalk row cut place i e v → Two then row first second v
     then_two tag w = two_laid builds_then tag w.laid (λ p is. found ∙ then_other tag.behind refl (planted w is))
 
-    pub swap_two : Tagged row place 13 first → Walk row cut place i e v → Two swap row first second v
+    pub swap_two : Tagged row place 13 first → CutWalk row cut place i e v → Two swap row first second v
     swap_two tag w = two_laid builds_swap tag w.laid (λ p is. found ∙ swap_other tag.behind refl cut.side (planted w is))
 
-    pub either_two : Tagged row place 14 first → Walk row cut place i e v → Two either row first second v
+    pub either_two : Tagged row place 14 first → CutWalk row cut place i e v → Two either row first second v
     either_two tag w = two_laid builds_either tag w.laid (λ p is. found ∙ either_other tag.behind refl (planted w is))
 
 -- Two views in the order in which their parts stand in the text: where they stand in the row, and that they are planted.
@@ -191,25 +191,25 @@ in_order Look k l a b = (((_, l), b), ((_, k), a))
 
 module _ {row : List ℕ} {cut : CutText} (sound : Sound cut) where
   -- A part of a view is a part of the text, and of the form of the view.
-  pub walk_piece : {place i e : ℕ} {v : View} → Walk row cut place i e v →
+  pub walk_piece : {place i e : ℕ} {v : View} → CutWalk row cut place i e v →
       (i ≤ e) × (e ≤ length cut.text.now) × Matches (side_form cut.side v) (slice cut.text.now i e)
   walk_piece w = let p = piece sound.ready sound.tabled (held w refl) in (p.ordered, p.within, p.matches)
 
   pub then_walks : {place first second i m e : ℕ} {v : View} (two : Two then row first second v) → first ≡ place + 1 → Ends cut first i m →
-      Walk row cut place i e v → Walk row cut first i m two.one × Walk row cut second m e two.other
+      CutWalk row cut place i e v → CutWalk row cut first i m two.one × CutWalk row cut second m e two.other
   then_walks {first = first} {second} {i} {m} {e} two behind ends w =
       let (node, a, b) = then_planted behind (two_long two) (planted w two.is) in
       let form = ap (side_form cut.side) two.is ∙ form_then cut.side two.one two.other in
       let (n, x, y) = hold_seq sound.ready sound.tabled node (planted_grows a) (planted_grows b) (held w form) in
       let same : n ≡ m = sym (ends n x.part) in (
-        subst (λ n. Walk row cut first i n two.one) same (walk two.laid_one a x),
-        subst (λ n. Walk row cut second n e two.other) same (walk two.laid_other b y),
+        subst (λ n. CutWalk row cut first i n two.one) same (walk two.laid_one a x),
+        subst (λ n. CutWalk row cut second n e two.other) same (walk two.laid_other b y),
       )
 
   -- The places of the two parts are given in the order in which they stand in the text.
   pub swap_walks : {place first second i m e : ℕ} {v : View} {r : ℕ × ℕ} (two : Two swap row first second v) → first ≡ place + 1 →
-      r ≡ (front cut.side first second, back cut.side first second) → Ends cut r.0 i m → Walk row cut place i e v →
-      Walk row cut r.0 i m (front cut.side two.one two.other) × Walk row cut r.1 m e (back cut.side two.one two.other)
+      r ≡ (front cut.side first second, back cut.side first second) → Ends cut r.0 i m → CutWalk row cut place i e v →
+      CutWalk row cut r.0 i m (front cut.side two.one two.other) × CutWalk row cut r.1 m e (back cut.side two.one two.other)
   swap_walks {first = first} {second} {i} {m} {e} {r = r} two behind order ends w =
       let side = cut.side in
       let (node, a, b) = swap_planted behind (two_long two) (planted w two.is) in
@@ -218,27 +218,27 @@ module _ {row : List ℕ} {cut : CutText} (sound : Sound cut) where
       let (n, x', y') = hold_seq sound.ready sound.tabled node (planted_grows x.1) (planted_grows y.1) (held w form) in
       let ends' : Ends cut (front side first second) i m = subst (λ r. Ends cut r.0 i m) order ends in
       let same : n ≡ m = sym {b = n} (ends' n x'.part) in
-      let before = subst (λ n. Walk row cut (front side first second) i n (front side two.one two.other)) same (walk x.0.1 x.1 x') in
-      let after = subst (λ n. Walk row cut (back side first second) n e (back side two.one two.other)) same (walk y.0.1 y.1 y') in (
-        subst (λ r. Walk row cut r.0 i m (front side two.one two.other)) (sym order) before,
-        subst (λ r. Walk row cut r.1 m e (back side two.one two.other)) (sym order) after,
+      let before = subst (λ n. CutWalk row cut (front side first second) i n (front side two.one two.other)) same (walk x.0.1 x.1 x') in
+      let after = subst (λ n. CutWalk row cut (back side first second) n e (back side two.one two.other)) same (walk y.0.1 y.1 y') in (
+        subst (λ r. CutWalk row cut r.0 i m (front side two.one two.other)) (sym order) before,
+        subst (λ r. CutWalk row cut r.1 m e (back side two.one two.other)) (sym order) after,
       )
 
-  module _ {place first second i e : ℕ} {v : View} (two : Two either row first second v) (behind : first ≡ place + 1) (w : Walk row cut place i e v) where
-    pub left_walks : Takes cut first second i true → Walk row cut first i e two.one
+  module _ {place first second i e : ℕ} {v : View} (two : Two either row first second v) (behind : first ≡ place + 1) (w : CutWalk row cut place i e v) where
+    pub left_walks : Takes cut first second i true → CutWalk row cut first i e two.one
     left_walks chosen =
         let (node, a, b) = either_planted behind (two_long two) (planted w two.is) in
         let form = ap (side_form cut.side) two.is ∙ form_either cut.side two.one two.other in
         walk two.laid_one a (hold_left sound.ready sound.tabled node (planted_grows a) (planted_grows b) chosen (held w form))
 
-    pub right_walks : Takes cut first second i false → Walk row cut second i e two.other
+    pub right_walks : Takes cut first second i false → CutWalk row cut second i e two.other
     right_walks chosen =
         let (node, a, b) = either_planted behind (two_long two) (planted w two.is) in
         let form = ap (side_form cut.side) two.is ∙ form_either cut.side two.one two.other in
         walk two.laid_other b (hold_right sound.ready sound.tabled node (planted_grows a) (planted_grows b) chosen (held w form))
 
-  pub each_walks : {place first i e : ℕ} {v : View} → Tagged row place 15 first → Walk row cut place i e v →
-      (l : View) × (v ≡ each l) × Series row cut first i e l
+  pub each_walks : {place first i e : ℕ} {v : View} → Tagged row place 15 first → CutWalk row cut place i e v →
+      (l : View) × (v ≡ each l) × CutSeries row cut first i e l
   each_walks tag w =
       let (l, is, laid) = laid_behind builds_each view_long tag w.laid in
       let (node, a) = each_planted tag.behind (planted w is) in
@@ -246,12 +246,12 @@ module _ {row : List ℕ} {cut : CutText} (sound : Sound cut) where
       (l, is, record { behind = _; laid = laid; planted = a; held = hold_many sound.ready sound.tabled node (planted_grows a) (held w form) })
 
   -- The first of any number of parts, and then the others
-  pub first_walks : {place i m e : ℕ} {l : View} → Ends cut place i m → i < e → Series row cut place i e l →
-      Walk row cut place i m l × Series row cut place m e l × (i < m)
+  pub first_walks : {place i m e : ℕ} {l : View} → Ends cut place i m → i < e → CutSeries row cut place i e l →
+      CutWalk row cut place i m l × CutSeries row cut place m e l × (i < m)
   first_walks {place} {i} {m} {e} {l} ends more s =
       let (n, x, y, less) = hold_first sound.ready sound.tabled s.held more in
       let same : n ≡ m = sym (ends n x.part) in (
-        subst (λ n. Walk row cut place i n l) same (walk s.laid s.planted x),
-        subst (λ n. Series row cut place n e l) same (record { behind = _; laid = s.laid; planted = s.planted; held = y }),
+        subst (λ n. CutWalk row cut place i n l) same (walk s.laid s.planted x),
+        subst (λ n. CutSeries row cut place n e l) same (record { behind = _; laid = s.laid; planted = s.planted; held = y }),
         subst (λ n. i < n) same less,
       )

@@ -14,19 +14,19 @@ use Rattle.clear.specs.Filled.{Laid}
 use Rattle.clear.proofs.Laying.{laid_behind}
 use Rattle.clear.proofs.Lengths.{form_long, both_long}
 use Rattle.marks.proofs.Cuts.{cut_ordered}
-use Rattle.walk.specs.Turns.{Turns, slice, Gives, other_text, front, back}
+use Rattle.walk.specs.Turns.{Turns, slice, GivesSome, other_text, front, back}
 use Rattle.walk.specs.declared.cut_text.CutText.{CutText}
-use Rattle.walk.specs.Walks.{Sound, Ends, other_part, Walk, Series, Takes}
+use Rattle.walk.specs.CutWalks.{Sound, Ends, other_part, CutWalk, CutSeries, Takes}
 use Rattle.walk.specs.Turned.{WholeWalk, CutWhole, TurnedWhole}
 use Rattle.walk.proofs.Pieces.{slice_both, slice_none, turns_copy, turns_hide, turns_then, turns_swap, turns_left, turns_right, turns_none, turns_more}
 use Rattle.walk.proofs.Descending.{walk_piece, then_two, swap_two, either_two, then_walks, swap_walks, left_walks, right_walks, each_walks}
 
 -- The same of a view or a text that is known to be another one.
-gives_view : {side : Side} {v v' : View} {s : Text} {P : Text → Type 0} → v ≡ v' → Gives (Turns side v' s) P → Gives (Turns side v s) P
-gives_view {side} {s = s} {P} is g = subst (λ v. Gives (Turns side v s) P) (sym is) g
+gives_view : {side : Side} {v v' : View} {s : Text} {P : Text → Type 0} → v ≡ v' → GivesSome (Turns side v' s) P → GivesSome (Turns side v s) P
+gives_view {side} {s = s} {P} is g = subst (λ v. GivesSome (Turns side v s) P) (sym is) g
 
-gives_text : {side : Side} {v : View} {s s' : Text} {P : Text → Type 0} → s ≡ s' → Gives (Turns side v s') P → Gives (Turns side v s) P
-gives_text {side} {v} {P = P} is g = subst (λ s. Gives (Turns side v s) P) (sym is) g
+gives_text : {side : Side} {v : View} {s s' : Text} {P : Text → Type 0} → s ≡ s' → GivesSome (Turns side v s') P → GivesSome (Turns side v s) P
+gives_text {side} {v} {P = P} is g = subst (λ s. GivesSome (Turns side v s) P) (sym is) g
 
 -- P holds of a text and Q of the one behind it, so R holds of both.
 abbrev pub Joins : (P Q R : Text → Type 0) → Type 0
@@ -34,11 +34,11 @@ Joins P Q R = (u w : Text) → P u → Q w → R (u ++ w)
 
 -- From i to e the text is turned into one of which P holds.
 abbrev PartGives : CutText → View → ℕ → ℕ → (Text → Type 0) → Type 0
-PartGives cut v i e P = Gives (Turns cut.side v (slice cut.text.now i e)) P
+PartGives cut v i e P = GivesSome (Turns cut.side v (slice cut.text.now i e)) P
 
 module _ {row : List ℕ} {cut : CutText} (sound : Sound cut) where
   pub copy_gives : {place first i e : ℕ} {v : View} {P : Text → Type 0} → Tagged row place 10 first → P (slice cut.text.now i e) →
-      Walk row cut place i e v → PartGives cut v i e P
+      CutWalk row cut place i e v → PartGives cut v i e P
   copy_gives {i = i} {e} tag given w =
       let (f, is, l) = laid_behind builds_copy form_long tag w.laid in
       let matches = subst (λ v. Matches (side_form cut.side v) (slice cut.text.now i e)) is (walk_piece sound w).2 in
@@ -46,7 +46,7 @@ module _ {row : List ℕ} {cut : CutText} (sound : Sound cut) where
 
   pub hide_gives : {place first i e : ℕ} {v : View} {P : Text → Type 0} → Tagged row place 11 first →
       ((p : Hidden) (b : ℕ) → Laid hidden_row HiddenFine row first b p → P (other_text cut.side p.1.0 p.1.1)) →
-      Walk row cut place i e v → PartGives cut v i e P
+      CutWalk row cut place i e v → PartGives cut v i e P
   hide_gives {i = i} {e} tag given w =
       let (p, is, l) = laid_behind builds_hide (both_long form_row (both_row text_row text_row) form_long) tag w.laid in
       let matches = subst (λ v. Matches (side_form cut.side v) (slice cut.text.now i e)) is (walk_piece sound w).2 in
@@ -55,8 +55,8 @@ module _ {row : List ℕ} {cut : CutText} (sound : Sound cut) where
   -- One after the other
   pub then_gives : {place first second i m e : ℕ} {v : View} {P Q R : Text → Type 0} → Tagged row place 12 first →
       second ≡ other_part cut place first → Ends cut first i m →
-      ((k : View) → Walk row cut first i m k → PartGives cut k i m P) → ((l : View) → Walk row cut second m e l → PartGives cut l m e Q) →
-      Joins P Q R → Walk row cut place i e v → PartGives cut v i e R
+      ((k : View) → CutWalk row cut first i m k → PartGives cut k i m P) → ((l : View) → CutWalk row cut second m e l → PartGives cut l m e Q) →
+      Joins P Q R → CutWalk row cut place i e v → PartGives cut v i e R
   then_gives {i = i} {m} {e} tag found ends one two joins w =
       let both = then_two found tag w in
       let (a, b) = then_walks sound both tag.behind ends w in
@@ -68,8 +68,8 @@ module _ {row : List ℕ} {cut : CutText} (sound : Sound cut) where
   -- In the other order: the part that stands second in the text gives first.
   pub swap_gives : {place first second i m e : ℕ} {v : View} {r : ℕ × ℕ} {P Q R : Text → Type 0} → Tagged row place 13 first →
       second ≡ other_part cut place first → r ≡ (front cut.side first second, back cut.side first second) → Ends cut r.0 i m →
-      ((l : View) → Walk row cut r.1 m e l → PartGives cut l m e P) → ((k : View) → Walk row cut r.0 i m k → PartGives cut k i m Q) →
-      Joins P Q R → Walk row cut place i e v → PartGives cut v i e R
+      ((l : View) → CutWalk row cut r.1 m e l → PartGives cut l m e P) → ((k : View) → CutWalk row cut r.0 i m k → PartGives cut k i m Q) →
+      Joins P Q R → CutWalk row cut place i e v → PartGives cut v i e R
   swap_gives {i = i} {m} {e} tag found order ends two one joins w =
       let both = swap_two found tag w in
       let (a, b) = swap_walks sound both tag.behind order ends w in
@@ -80,15 +80,15 @@ module _ {row : List ℕ} {cut : CutText} (sound : Sound cut) where
 
   -- One or the other
   module _ {place first second i e : ℕ} {v : View} {P : Text → Type 0} (tag : Tagged row place 14 first) (found : second ≡ other_part cut place first) where
-    pub left_gives : Takes cut first second i true → ((k : View) → Walk row cut first i e k → PartGives cut k i e P) →
-        Walk row cut place i e v → PartGives cut v i e P
+    pub left_gives : Takes cut first second i true → ((k : View) → CutWalk row cut first i e k → PartGives cut k i e P) →
+        CutWalk row cut place i e v → PartGives cut v i e P
     left_gives chosen one w =
         let both = either_two found tag w in
         let x = one both.one (left_walks sound both tag.behind w chosen) in
         gives_view both.is (record { out = x.out; holds = turns_left x.holds; took = x.took })
 
-    pub right_gives : Takes cut first second i false → ((l : View) → Walk row cut second i e l → PartGives cut l i e P) →
-        Walk row cut place i e v → PartGives cut v i e P
+    pub right_gives : Takes cut first second i false → ((l : View) → CutWalk row cut second i e l → PartGives cut l i e P) →
+        CutWalk row cut place i e v → PartGives cut v i e P
     right_gives chosen two w =
         let both = either_two found tag w in
         let y = two both.other (right_walks sound both tag.behind w chosen) in
@@ -96,27 +96,27 @@ module _ {row : List ℕ} {cut : CutText} (sound : Sound cut) where
 
   -- Any number of parts
   pub each_gives : {place first i e : ℕ} {v : View} {P : Text → Type 0} → Tagged row place 15 first →
-      ((l : View) → Series row cut first i e l → PartGives cut (each l) i e P) → Walk row cut place i e v → PartGives cut v i e P
+      ((l : View) → CutSeries row cut first i e l → PartGives cut (each l) i e P) → CutWalk row cut place i e v → PartGives cut v i e P
   each_gives tag parts w = let (l, is, s) = each_walks sound tag w in gives_view is (parts l s)
 
-pub none_gives : (side : Side) (l : View) (text : Text) (i : ℕ) {P : Text → Type 0} → P [] → Gives (Turns side (each l) (slice text i i)) P
+pub none_gives : (side : Side) (l : View) (text : Text) (i : ℕ) {P : Text → Type 0} → P [] → GivesSome (Turns side (each l) (slice text i i)) P
 none_gives side l text i given = gives_text (slice_none text i) (record { out = []; holds = turns_none side; took = given })
 
 pub more_gives : {side : Side} {l : View} (text : Text) (i m e : ℕ) {P Q R : Text → Type 0} → i ≤ m → m ≤ e →
-    Gives (Turns side (each l) (slice text i m)) P → Gives (Turns side l (slice text m e)) Q → Joins P Q R → Gives (Turns side (each l) (slice text i e)) R
+    GivesSome (Turns side (each l) (slice text i m)) P → GivesSome (Turns side l (slice text m e)) Q → Joins P Q R → GivesSome (Turns side (each l) (slice text i e)) R
 more_gives text i m e low high x y joins =
     gives_text (slice_both text i m e low high) (record { out = x.out ++ y.out; holds = turns_more x.holds y.holds; took = joins _ _ x.took y.took })
 
 -- No part is left.
-pub all_gives : {row : List ℕ} {cut : CutText} {place m e : ℕ} {l : View} (i : ℕ) {P : Text → Type 0} → Series row cut place m e l → e ≤ m →
-    Gives (Turns cut.side (each l) (slice cut.text.now i m)) P → Gives (Turns cut.side (each l) (slice cut.text.now i e)) P
+pub all_gives : {row : List ℕ} {cut : CutText} {place m e : ℕ} {l : View} (i : ℕ) {P : Text → Type 0} → CutSeries row cut place m e l → e ≤ m →
+    GivesSome (Turns cut.side (each l) (slice cut.text.now i m)) P → GivesSome (Turns cut.side (each l) (slice cut.text.now i e)) P
 all_gives {cut = cut} {m = m} {e} i rest done given =
     let ordered = cut_ordered rest.held.cut in
     let same : e ≡ m = omega arith in
     gives_text (ap (λ e. slice cut.text.now i e) same) given
 
 -- The whole text
-whole_gives : {side : Side} {v : View} (text : Text) {P : Text → Type 0} → Gives (Turns side v (slice text 0 (length text))) P → Gives (Turns side v text) P
+whole_gives : {side : Side} {v : View} (text : Text) {P : Text → Type 0} → GivesSome (Turns side v (slice text 0 (length text))) P → GivesSome (Turns side v text) P
 whole_gives text given = gives_text (sym (take_all (length text - 0) text (omega arith))) given
 
 -- At a place of a row stands one view at most.
@@ -124,7 +124,7 @@ pub same_view : {row : List ℕ} {at e e' : ℕ} {v v' : View} → Laid view_row
 same_view {v = v} {v'} l l' = ((splits_view v).only v' _ _ (sym l.laid ∙ l'.laid)).0
 
 pub turned_whole : {row : List ℕ} {cut : CutText} {P : Text → Type 0} → CutWhole row cut →
-    ((v : View) → WholeWalk row cut v → PartGives cut v 0 (length cut.text.now) P) → Gives (TurnedWhole row cut) P
+    ((v : View) → WholeWalk row cut v → PartGives cut v 0 (length cut.text.now) P) → GivesSome (TurnedWhole row cut) P
 turned_whole {cut = cut} c given =
     let g = whole_gives cut.text.now (given c.view c.walk) in
     record {
@@ -134,5 +134,5 @@ turned_whole {cut = cut} c given =
     }
 
 -- The same, where more is known of what is taken than is asked for.
-pub more_taken : {R P Q : Text → Type 0} → ((u : Text) → P u → Q u) → Gives R P → Gives R Q
+pub more_taken : {R P Q : Text → Type 0} → ((u : Text) → P u → Q u) → GivesSome R P → GivesSome R Q
 more_taken so given = record { out = given.out; holds = given.holds; took = so given.out given.took }

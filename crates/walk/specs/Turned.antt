@@ -8,11 +8,11 @@ use Rattle.clear.specs.declared.side.Side.{Side}
 use Rattle.clear.specs.declared.side.Side.TheVariants.{Source, Look}
 use Rattle.walk.specs.Turns.{Turns, shown, made}
 use Rattle.walk.specs.declared.cut_text.CutText.{CutText}
-use Rattle.walk.specs.Walks.{Sound, Walk}
+use Rattle.walk.specs.CutWalks.{Sound, CutWalk}
 
 -- The whole text is a part of the view v, which the whole row says.
 abbrev pub WholeWalk : List ℕ → CutText → View → Type 0
-WholeWalk row cut v = Walk row cut 0 0 (length cut.text.now) v
+WholeWalk row cut v = CutWalk row cut 0 0 (length cut.text.now) v
 
 -- The text is cut by a clear view.
 pub record CutWhole (row : List ℕ) (cut : CutText) : Type 0 where

@@ -14,8 +14,14 @@ pub data Turns : Side → View → Text → Text → Type 0 where
 abbrev pub slice : Text → ℕ → ℕ → Text
 slice text i e = take (e - i) (drop i text)
 
+-- The text s of a side turns into some text of which P holds.
+pub record Gives (side : Side) (v : View) (s : Text) (P : Text → Type 0) : Type 0 where
+  pub out : Text
+  pub turns : Turns side v s out
+  pub took : P out
+
 -- Some text of which R holds was given: P holds of it.
-pub record Gives (R P : Text → Type 0) : Type 0 where
+pub record GivesSome (R P : Text → Type 0) : Type 0 where
   pub out : Text
   pub holds : R out
   pub took : P out

@@ -1,7 +1,7 @@
 // A text that has been cut into the parts of one side of a view, and where its parts are.
 // Not here: how a text is cut (crate marks).
 ghost use Rattle.std.specs.Prelude.{◌≡◌, ◌≤◌};
-ghost use Rattle.walk.specs.Walks.{Sound, Ends, Takes, other_part};
+ghost use Rattle.walk.specs.CutWalks.{Sound, Ends, Takes, other_part};
 
 use clear::Side;
 use trees::{Node, Tree, begins_at, node_at};

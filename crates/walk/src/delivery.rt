@@ -1,6 +1,6 @@
 // What can be given to a sink, written into lent bytes if all of it fits: counted first, and then written by the same code.
 ghost use Rattle.std.specs.Prelude.{◌≡◌, ℕ, List};
-ghost use Rattle.walk.specs.Turns.{Gives};
+ghost use Rattle.walk.specs.Turns.{GivesSome};
 ghost use Rattle.walk.specs.Delivers.{Delivers};
 
 use crate::count::Count;
@@ -19,7 +19,7 @@ pub trait Give {
 
     fn give<S: Sink>(&self, sink: &mut S)
         requires { can self.now }
-        ensures { Gives (gives self.now) (S.took sink.old sink.new) };
+        ensures { GivesSome (gives self.now) (S.took sink.old sink.new) };
 }
 
 // Writes what is given at the front of `out` and says how many bytes that are, or writes nothing if there are too many.

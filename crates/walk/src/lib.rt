@@ -9,6 +9,8 @@ mod give;
 mod sink;
 mod turned;
 mod turning;
+mod walk;
+mod whole;
 mod written;
 
 pub use count::Count;
@@ -17,5 +19,8 @@ pub use delivery::{Give, deliver};
 pub use give::give_part;
 pub use sink::Sink;
 pub use turned::Turned;
-pub use turning::turn;
+pub use turning::turn_part;
+pub use walk::turn;
+pub use whole::turned_len;
+pub use whole::write_turned;
 pub use written::Written;

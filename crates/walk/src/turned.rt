@@ -4,7 +4,7 @@ ghost use Rattle.walk.specs.Turned.{CutWhole, TurnedWhole, turned_one};
 use crate::cut_text::CutText;
 use crate::delivery::Give;
 use crate::sink::Sink;
-use crate::turning::turn;
+use crate::turning::turn_part;
 
 #[derive(Clone, Copy)]
 pub struct Turned<'v, 'w, 't> {
@@ -20,6 +20,6 @@ impl<'v, 'w, 't> Give for Turned<'v, 'w, 't> {
     ghost one = { λ s u w c a b. turned_one c a b };
 
     fn give<S: Sink>(&self, sink: &mut S) {
-        turn(self.row, &self.cut, 0, 0, self.cut.text.len(), sink);
+        turn_part(self.row, &self.cut, 0, 0, self.cut.text.len(), sink);
     }
 }

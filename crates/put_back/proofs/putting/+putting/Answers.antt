@@ -89,12 +89,12 @@ put_part-put_part-requires-then-takes_first-2 g t c κs within =
     let l = falls (walks_inside c.requires.walks) go.1 c.decreases in
     (omega (arith, l), (within, (c.requires.short, (c.requires.pair, go.0))))
 
-pub put_part-turn-requires : goal.put_part-turn-requires
-put_part-turn-requires g t c =
+pub put_part-turn_part-requires : goal.put_part-turn_part-requires
+put_part-turn_part-requires g t c =
     record { short = c.requires.short; sound = c.requires.pair.look_sound; walks = go_to_left c.requires.pair c.second_of-second-in-Either.ensures c.requires.walks (rw c.in-Either.is at c.in-Some.ensures) c.if-takes_first.ensures }
 
-pub put_part-turn-requires-then-takes_first-3 : goal.put_part-turn-requires-then-takes_first-3
-put_part-turn-requires-then-takes_first-3 g t c =
+pub put_part-turn_part-requires-then-takes_first-3 : goal.put_part-turn_part-requires-then-takes_first-3
+put_part-turn_part-requires-then-takes_first-3 g t c =
     record { short = c.requires.short; sound = c.requires.pair.look_sound; walks = go_to_right c.requires.pair c.second_of-second-in-Either.ensures c.requires.walks (rw c.in-Either.is at c.in-Some.ensures) c.if-takes_first.ensures }
 
 pub put_part-put_part-requires-else-takes_first-3 : goal.put_part-put_part-requires-else-takes_first-3
@@ -109,11 +109,11 @@ put_part-returns-then-takes_first-2 g t c = λ v w.
 
 pub put_part-returns-else-takes_first-2 : goal.put_part-returns-else-takes_first-2
 put_part-returns-else-takes_first-2 g t c = λ v w.
-    to_left_puts c.requires.pair c.second_of-second-in-Either.ensures (rw c.in-Either.is at c.in-Some.ensures) c.if-takes_first.ensures c.if-takes_first-2.ensures c.turn.ensures w
+    to_left_puts c.requires.pair c.second_of-second-in-Either.ensures (rw c.in-Either.is at c.in-Some.ensures) c.if-takes_first.ensures c.if-takes_first-2.ensures c.turn_part.ensures w
 
 pub put_part-returns-then-takes_first-3 : goal.put_part-returns-then-takes_first-3
 put_part-returns-then-takes_first-3 g t c = λ v w.
-    to_right_puts c.requires.pair c.second_of-second-in-Either.ensures (rw c.in-Either.is at c.in-Some.ensures) c.if-takes_first.ensures c.if-takes_first-3.ensures c.turn-then-takes_first-3.ensures w
+    to_right_puts c.requires.pair c.second_of-second-in-Either.ensures (rw c.in-Either.is at c.in-Some.ensures) c.if-takes_first.ensures c.if-takes_first-3.ensures c.turn_part-then-takes_first-3.ensures w
 
 pub put_part-returns-else-takes_first-3 : goal.put_part-returns-else-takes_first-3
 put_part-returns-else-takes_first-3 g t c = λ v w.
@@ -163,7 +163,7 @@ pub put_each-returns : goal.put_each-returns
 put_each-returns g t c = λ v s. let (left, rest, low, low', given) = c.parts.invariant v s in all_done c.requires.pair c.args.old c.args.new low c.parts-test.false left rest given
 
 pub put_next-returns-then-rest : goal.put_next-returns-then-rest
-put_next-returns-then-rest g t c = λ l n. next_made c.requires.pair (omega arith) c.turn.ensures n
+put_next-returns-then-rest g t c = λ l n. next_made c.requires.pair (omega arith) c.turn_part.ensures n
 
 pub put_next-put_part-requires : goal.put_next-put_part-requires
 put_next-put_part-requires g t c κs within =

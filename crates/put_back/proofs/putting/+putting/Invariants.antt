@@ -3,7 +3,7 @@
 use Rattle.std.proofs.Common.{◌+◌, ◌-◌, ◌*◌, ◌≤◌, length}
 use Rattle.lens.specs.Views.{View}
 use Rattle.walk.specs.Turns.{slice}
-use Rattle.walk.specs.Walks.{Series}
+use Rattle.walk.specs.CutWalks.{CutSeries}
 use Rattle.put_back.specs.Pairs.{SeriesBoth, Putting}
 use Rattle.put_back.proofs.putting.+putting.Given as goal
 
@@ -19,7 +19,7 @@ decreases-put_each g l = 3 * (length l.row.now - l.place) + 2
 abbrev pub invariant-put_each-parts : goal.invariant-put_each-parts
 invariant-put_each-parts g l =
     (v : View) → SeriesBoth l.row l.source l.look l.place l.old l.new v →
-    Series l.row l.source l.place l.from l.old.end v × Series l.row l.look l.place l.to l.new.end v ×
+    CutSeries l.row l.source l.place l.from l.old.end v × CutSeries l.row l.look l.place l.to l.new.end v ×
     (l.old.at ≤ l.from) × (l.new.at ≤ l.to) ×
     Putting v (slice l.look.text.now l.new.at l.to) (slice l.source.text.now l.old.at l.from) (l.old.end ≤ l.from)
     (g.S.Sink.took l.initial.sink l.sink)

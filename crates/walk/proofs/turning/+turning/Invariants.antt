@@ -2,21 +2,21 @@
 -- `from` were given, and from there on the text goes on with the others.
 use Rattle.std.proofs.Common.{◌+◌, ◌-◌, ◌*◌, ◌≤◌, length}
 use Rattle.lens.specs.Views.{View, each}
-use Rattle.walk.specs.Turns.{Turns, Gives, slice}
-use Rattle.walk.specs.Walks.{Series}
+use Rattle.walk.specs.Turns.{Turns, GivesSome, slice}
+use Rattle.walk.specs.CutWalks.{CutSeries}
 use Rattle.walk.proofs.turning.+turning.Given as goal
 
-abbrev pub decreases-turn : goal.decreases-turn
-decreases-turn g l = 2 * (length l.row.now - l.place)
+abbrev pub decreases-turn_part : goal.decreases-turn_part
+decreases-turn_part g l = 2 * (length l.row.now - l.place)
 
 abbrev pub decreases-turn_each : goal.decreases-turn_each
 decreases-turn_each g l = 2 * (length l.row.now - l.place) + 1
 
 abbrev pub invariant-turn_each-parts : goal.invariant-turn_each-parts
 invariant-turn_each-parts g l =
-    (v : View) → Series l.row l.cut l.place l.at l.end v →
-    Series l.row l.cut l.place l.from l.end v × (l.at ≤ l.from) ×
-    Gives (Turns l.cut.side (each v) (slice l.cut.text.now l.at l.from)) (g.S.Sink.took l.initial.sink l.sink)
+    (v : View) → CutSeries l.row l.cut l.place l.at l.end v →
+    CutSeries l.row l.cut l.place l.from l.end v × (l.at ≤ l.from) ×
+    GivesSome (Turns l.cut.side (each v) (slice l.cut.text.now l.at l.from)) (g.S.Sink.took l.initial.sink l.sink)
 
 abbrev pub decreases-turn_each-parts : goal.decreases-turn_each-parts
 decreases-turn_each-parts g l = l.end - l.from

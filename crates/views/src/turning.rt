@@ -10,7 +10,7 @@ use crate::judging::{Judged, judge};
 use crate::made::Made;
 use crate::room::has_room;
 use clear::Side;
-use walk::{Turned, deliver};
+use walk::{turned_len, write_turned};
 
 // The look of a source: written first in `out`, whose other bytes stay. What the work words hold afterwards is free.
 pub fn show(view: &[u8], source: &[u8], out: &mut [u8], work: &mut [u32]) -> Made
@@ -50,10 +50,19 @@ fn turn_clear(view: &[u8], side: Side, text: &[u8], out: &mut [u8], work: &mut [
     let Some(cut) = cut_text(view, side, text, work) else {
         return no_text(side);
     };
-    let given = Turned { row: view, cut };
-    let Some(len) = deliver(&given, out) else {
+    let len = turned_len(view, cut.side, &cut.tree, cut.text, cut.starts, cut.marks);
+    if len > out.len() {
         return Made::Full;
-    };
+    }
+    let _ = write_turned(
+        view,
+        cut.side,
+        &cut.tree,
+        cut.text,
+        cut.starts,
+        cut.marks,
+        out,
+    );
     Made::Done(len)
 }
 

@@ -32,7 +32,7 @@ on_shown (shown x) = x
 pub on_made : {v : View} {u s : Text} → Turns Look v u s → Makes v u s
 on_made (made x) = x
 
-turns_one : (side : Side) {v : View} {s u w : Text} → Clear v → Turns side v s u → Turns side v s w → u ≡ w
+pub turns_one : (side : Side) {v : View} {s u w : Text} → Clear v → Turns side v s u → Turns side v s w → u ≡ w
 turns_one Source {v} {s} {u} {w} c a b = (clear_works v c).shows_one s u w (on_shown a) (on_shown b)
 turns_one Look {v} {s} {u} {w} c a b = (clear_works v c).makes_one s u w (on_made a) (on_made b)
 

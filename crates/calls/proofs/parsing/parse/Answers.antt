@@ -5,6 +5,6 @@ use Rattle.calls.proofs.parsing.parse.Goals as goal
 
 pub returns-else-len-row : goal.returns-else-len-row
 returns-else-len-row c =
-    let same = c.copy-from-slice.ensures.after ∙ c.deref.ensures.value in
+    let same = c.copy_from_slice.ensures.after ∙ c.deref.ensures.value in
     let said = c.in-Ok.ensures in
-    row_stands (ap length c.copy-from-slice.ensures.after ∙ c.deref.ensures.len ∙ sym c.len-count.ensures) (subst (λ s. Encodes s said.0) (sym same) said.1)
+    row_stands (ap length c.copy_from_slice.ensures.after ∙ c.deref.ensures.len ∙ sym c.len-count.ensures) (subst (λ s. Encodes s said.0) (sym same) said.1)

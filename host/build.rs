@@ -1,5 +1,5 @@
 //! Links the proved calls: has the kit's command `rt` prove and build them where the archive is missing or older than a source,
-//! and links what `rt` says has to stand beside it.
+//! and links the kit's own archive beside it.
 
 use std::env;
 use std::fs;
@@ -18,28 +18,40 @@ fn main() {
 fn link() -> Result<(), String> {
     let package = PathBuf::from(variable("CARGO_MANIFEST_DIR")?);
     let root = package.parent().ok_or("this package has no folder above it")?;
-    let archive = root.join("target/staticlib/libcalls.a");
-    let noted = PathBuf::from(variable("OUT_DIR")?).join("beside.txt");
-    let sources = [root.join("crates.txt"), root.join("crates")];
+    let archive = root.join("crates/calls/out/libcalls.a");
+    let sources = sources(root).map_err(|e| format!("{}: {e}", root.display()))?;
     for path in sources.iter().chain([&archive]) {
         println!("cargo::rerun-if-changed={}", path.display());
     }
 
-    let beside = match fs::read_to_string(&noted) {
-        Ok(beside) if is_fresh(&archive, &sources) && Path::new(&beside).exists() => beside,
-        _ => {
-            let beside = build(root)?;
-            fs::write(&noted, &beside).map_err(|e| format!("{}: {e}", noted.display()))?;
-            beside
-        }
-    };
+    if !is_fresh(&archive, &sources) {
+        rt(&["lib"], &root.join("crates/calls"))?;
+    }
     link_archive(&archive)?;
-    link_archive(Path::new(&beside))
+    link_archive(&beside(root)?)
 }
 
-/// Proves and builds the archive, and returns the path of the archive that `rt` says to link beside it.
-fn build(root: &Path) -> Result<String, String> {
-    let run = Command::new("rt").args(["staticlib", "calls"]).current_dir(root).output();
+/// What the archive is built from: the list of the crates, and what each of them says.
+fn sources(root: &Path) -> io::Result<Vec<PathBuf>> {
+    let mut sources = vec![root.join("crates.txt")];
+    for entry in fs::read_dir(root.join("crates"))? {
+        let of_crate = entry?.path();
+        sources.extend(["src", "specs", "proofs"].map(|part| of_crate.join(part)).into_iter().filter(|part| part.exists()));
+    }
+    Ok(sources)
+}
+
+/// The kit's own archive, in the folder of its first page: the allocator that the calls use.
+fn beside(root: &Path) -> Result<PathBuf, String> {
+    let said = rt(&["doc"], root)?;
+    let page = said.lines().map(Path::new).find(|line| line.is_file());
+    let kit = page.and_then(Path::parent).ok_or("rt doc doesn't say where the Rattle kit lies")?;
+    Ok(kit.join("c/liblibc_c.a"))
+}
+
+/// Runs the kit's command, and returns what it says.
+fn rt(words: &[&str], folder: &Path) -> Result<String, String> {
+    let run = Command::new("rt").args(words).current_dir(folder).output();
     let output = run.map_err(|e| match e.kind() {
         io::ErrorKind::NotFound => {
             "the command rt of the Rattle kit is not on PATH; it proves and builds the calls that this package links".into()
@@ -50,12 +62,9 @@ fn build(root: &Path) -> Result<String, String> {
     if !output.status.success() {
         let last = said.lines().rev().take(5).collect::<Vec<_>>();
         let last = last.into_iter().rev().collect::<Vec<_>>().join(" / ");
-        return Err(format!("rt staticlib calls: {}: {last}", output.status));
+        return Err(format!("rt {}: {}: {last}", words.join(" "), output.status));
     }
-    let words = said.split_whitespace().collect::<Vec<_>>();
-    let beside = words.windows(3).find(|w| w[0] == "link" && w[2] == "beside");
-    let beside = beside.ok_or("rt staticlib calls doesn't say what is to be linked beside the archive")?;
-    Ok(beside[1].to_string())
+    Ok(said.into_owned())
 }
 
 /// Whether the archive is there and no source is newer.

@@ -10,7 +10,7 @@ use Rattle.viable.specs.declared.reading.Break.{Break}
 use Rattle.viable.specs.declared.reading.Reading.TheVariants.{Fits, Breaks}
 use Rattle.viable.specs.Moves.{Quiet}
 use Rattle.viable.specs.Viable.{Viable, BreaksAt}
-use Rattle.viable.specs.States.{Reader, After, Goes_on, Advanced, Follows, Expects, ReadsText}
+use Rattle.viable.specs.States.{Reader, After, GoesOn, Advanced, Follows, Expects, ReadsText}
 use Rattle.viable.proofs.Fronts.{viable_front, viable_cases}
 use Rattle.viable.proofs.Sets.{after_more, next_decides, ends_decides, after_viable}
 
@@ -31,7 +31,7 @@ module _ (t : List ℕ) (n : ℕ) (stays : Stays n t) (some : 0 < n) (text : Tex
           let one : Viable f (take at text ++ get_or text at 0 ∷ []) = subst (λ u. Viable f u) (take_more text at 0 less) front in
           both_ways false refl ((next_decides t n stays some follows.after (get_or text at 0) false r (none less)).1 one)
         where
-          none : at < length text → Decides false ((q : ℕ) × Goes_on t n set (get_or text at 0) q)
+          none : at < length text → Decides false ((q : ℕ) × GoesOn t n set (get_or text at 0) q)
           none less = (λ e. absurd (both_ways false refl e), λ (q, g). absurd (follows.stuck less q g))
 
     pub reads_fits : length text ≤ at → bit set e ≡ true → ReadsText t e text Fits

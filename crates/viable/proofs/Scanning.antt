@@ -7,7 +7,7 @@ use Rattle.bits.specs.Bits.{bit, Puts, Clears}
 use Rattle.automata.specs.Automaton.{leaf}
 use Rattle.automata.proofs.Runs.{Reads}
 use Rattle.pairs.specs.Table.{shape_at}
-use Rattle.viable.specs.States.{First, Skips, Goes_on, MarksOn, Advanced, Expects}
+use Rattle.viable.specs.States.{First, Skips, GoesOn, MarksOn, Advanced, Expects}
 
 -- Where a word has nothing from a digit on, it has no bit from there on.
 rest_empty : (set : List ℕ) (k j : ℕ) → get_or set (k / 32) 0 / 2 ^ (k % 32) ≡ 0 → k < j → j < 32 * (k / 32) + 32 → bit set j ≡ true → ⊥
@@ -32,7 +32,7 @@ scan_more set from k r before here skips j low high t = elim (cases_order j k) [
 -- One state more goes on, or is passed
 
 module _ (t : List ℕ) (set : List ℕ) (x : ℕ) where
-  goes_later : {k r q : ℕ} → k ≤ r → Goes_on t k set x q → Goes_on t r set x q
+  goes_later : {k r q : ℕ} → k ≤ r → GoesOn t k set x q → GoesOn t r set x q
   goes_later l g = record { from = g.from; below = omega (arith, g.below); marked = g.marked; reads = g.reads }
 
   pub advanced_none : {old new : List ℕ} → Clears old new → Advanced t 0 set x new false
@@ -50,7 +50,7 @@ module _ (t : List ℕ) (set : List ℕ) (x : ℕ) where
     any = (λ e. let (q, g) = a.any.0 e in (q, goes_later l g), λ (q, g). a.any.1 (q, earlier q g));
   }
     where
-      earlier : (q : ℕ) → Goes_on t r set x q → Goes_on t k set x q
+      earlier : (q : ℕ) → GoesOn t r set x q → GoesOn t k set x q
       earlier q g = elim (cases_lt g.from k) [
         | inl less ↦ record { from = g.from; below = less; marked = g.marked; reads = g.reads }
         | inr more ↦ absurd (first.none g.from more g.below g.marked)
@@ -61,29 +61,29 @@ module _ (t : List ℕ) (set : List ℕ) (x : ℕ) where
       MarksOn t k x old new more → Advanced t (k + 1) set x new (some || more)
   advanced_more {k} {old} {new} {some} {more} marked a m = record { sound = sound; complete = complete; any = (found, finds) }
     where
-      here : (q : ℕ) → Reads (shape_at t k) x q → Goes_on t (k + 1) set x q
+      here : (q : ℕ) → Reads (shape_at t k) x q → GoesOn t (k + 1) set x q
       here q r = record { from = k; below = omega arith; marked = marked; reads = r }
 
       -- a state below k + 1 is below k, or k
-      cases : (P : Type 0) (q : ℕ) → Goes_on t (k + 1) set x q → (Goes_on t k set x q → P) → (Reads (shape_at t k) x q → P) → P
+      cases : (P : Type 0) (q : ℕ) → GoesOn t (k + 1) set x q → (GoesOn t k set x q → P) → (Reads (shape_at t k) x q → P) → P
       cases P q g old-one new-one = elim (cases_eq g.from k) [
         | inl e ↦ new-one (subst (λ p. Reads (shape_at t p) x q) e g.reads)
         | inr ne ↦ old-one (record { from = g.from; below = omega (arith, g.below); marked = g.marked; reads = g.reads })
       ]
 
-      sound : (q : ℕ) → bit new q ≡ true → Goes_on t (k + 1) set x q
+      sound : (q : ℕ) → bit new q ≡ true → GoesOn t (k + 1) set x q
       sound q b = elim (m.sound q b) [ inl o ↦ goes_later (omega arith) (a.sound q o) | inr r ↦ here q r ]
 
-      complete : (q : ℕ) → Goes_on t (k + 1) set x q → bit new q ≡ true
+      complete : (q : ℕ) → GoesOn t (k + 1) set x q → bit new q ≡ true
       complete q g = cases (bit new q ≡ true) q g (λ o. m.keeps q (a.complete q o)) (m.complete q)
 
-      found : (some || more) ≡ true → (q : ℕ) × Goes_on t (k + 1) set x q
+      found : (some || more) ≡ true → (q : ℕ) × GoesOn t (k + 1) set x q
       found e = elim (or_cases some more e) [
         | inl o ↦ (let (q, g) = a.any.0 o in (q, goes_later (omega arith) g))
         | inr n ↦ (let (q, r) = m.any.0 n in (q, here q r))
       ]
 
-      finds : (q : ℕ) × Goes_on t (k + 1) set x q → (some || more) ≡ true
+      finds : (q : ℕ) × GoesOn t (k + 1) set x q → (some || more) ≡ true
       finds (q, g) = cases ((some || more) ≡ true) q g (λ o. or_left some more (a.any.1 (q, o))) (λ r. or_right some more (m.any.1 (q, r)))
 
 -- A state that reads the byte goes on
@@ -103,7 +103,7 @@ pub expects_more : {t set bytes new mid : List ℕ} {n m : ℕ} {some : Bool} �
     Puts bytes m some new → Expects t n set (m + 1) new
 expects_more {t} {set} {bytes} {new} {n = n} {m} {some} e a puts = record {
   each =
-      below_more (λ x. Decides (bit new x) ((q : ℕ) × Goes_on t n set x q)) m
+      below_more (λ x. Decides (bit new x) ((q : ℕ) × GoesOn t n set x q)) m
       (λ x l. Decides-at (bit new x) (bit bytes x) (puts.others x (λ is. omega arith)) (e.each x l))
       (Decides-at (bit new m) some puts.here a.any);
 }

@@ -15,7 +15,7 @@ use Rattle.pairs.specs.Table.{shape_at}
 use Rattle.pairs.proofs.Edges.{stays_inner}
 use Rattle.viable.specs.Moves.{Quiet}
 use Rattle.viable.specs.Viable.{Viable}
-use Rattle.viable.specs.States.{Reader, After, Goes_on, Advanced}
+use Rattle.viable.specs.States.{Reader, After, GoesOn, Advanced}
 use Rattle.viable.proofs.Splitting.{quiet_runs, runs_quiet, runs_split, runs_single}
 use Rattle.viable.proofs.Completing.{viable_reached, reached_viable, matches_reached, reached_matches}
 
@@ -52,7 +52,7 @@ module _ (t : List ℕ) (n : ℕ) (stays : Stays n t) where
   -- Behind a byte
 
   module _ {u : Text} {set : List ℕ} (some : 0 < n) (after : After t n u set) (x : ℕ) where
-    goes_runs : (q : ℕ) → Goes_on t n set x q → Runs (shape_at t) 0 (u ++ x ∷ []) q
+    goes_runs : (q : ℕ) → GoesOn t n set x q → Runs (shape_at t) 0 (u ++ x ∷ []) q
     goes_runs q g =
         runs_join (shape_at t) 0 g.from q u (x ∷ [])
         (after.sound g.from g.below g.marked)
@@ -62,7 +62,7 @@ module _ (t : List ℕ) (n : ℕ) (stays : Stays n t) where
     record Entry (q : ℕ) : Type 0 where
       pub state : ℕ
       pub below : state < n
-      pub goes : Goes_on t n set x state
+      pub goes : GoesOn t n set x state
       pub path : Reach (Quiet t) state q
 
     runs_goes : (q : ℕ) → Runs (shape_at t) 0 (u ++ x ∷ []) q → Entry q
@@ -96,13 +96,13 @@ module _ (t : List ℕ) (n : ℕ) (stays : Stays n t) where
             closed.complete q l (record { start = i.state; less = i.below; marked = a.complete i.state i.goes; path = i.path })
 
     -- Whether one byte more is viable is whether the set goes on with it.
-    pub next_decides : {e : ℕ} {f : Form} (b : Bool) → Reader t e f → Decides b ((q : ℕ) × Goes_on t n set x q) → Decides b (Viable f (u ++ x ∷ []))
+    pub next_decides : {e : ℕ} {f : Form} (b : Bool) → Reader t e f → Decides b ((q : ℕ) × GoesOn t n set x q) → Decides b (Viable f (u ++ x ∷ []))
     next_decides {f = f} b r d = Decides-like b viable goes d
       where
-        viable : (q : ℕ) × Goes_on t n set x q → Viable f (u ++ x ∷ [])
+        viable : (q : ℕ) × GoesOn t n set x q → Viable f (u ++ x ∷ [])
         viable (q, g) = reached_viable (shape_at t) r.acts r.stops r.ranged (u ++ x ∷ []) q (goes_runs q g)
 
-        goes : Viable f (u ++ x ∷ []) → (q : ℕ) × Goes_on t n set x q
+        goes : Viable f (u ++ x ∷ []) → (q : ℕ) × GoesOn t n set x q
         goes v = let (q, run) = viable_reached (shape_at t) r.acts (u ++ x ∷ []) v in let i = runs_goes q run in (i.state, i.goes)
 
   -- The end

@@ -33,7 +33,7 @@ pub record Skips (set : List ℕ) (k r : ℕ) : Type 0 where
   pub none : (j : ℕ) → k < j → j < r → bit set j ≡ true → ⊥
 
 -- A state of the set, below k, reads the byte x and goes on at q.
-pub record Goes_on (t : List ℕ) (k : ℕ) (set : List ℕ) (x q : ℕ) : Type 0 where
+pub record GoesOn (t : List ℕ) (k : ℕ) (set : List ℕ) (x q : ℕ) : Type 0 where
   pub from : ℕ
   pub below : from < k
   pub marked : bit set from ≡ true
@@ -49,19 +49,19 @@ pub record MarksOn (t : List ℕ) (p x : ℕ) (old new : List ℕ) (some : Bool)
 -- `advance`: exactly the states at which those of the set, below k, go on with the byte x are marked, and it is said
 -- whether there are any.
 pub record Advanced (t : List ℕ) (k : ℕ) (set : List ℕ) (x : ℕ) (new : List ℕ) (some : Bool) : Type 0 where
-  pub sound : (q : ℕ) → bit new q ≡ true → Goes_on t k set x q
-  pub complete : (q : ℕ) → Goes_on t k set x q → bit new q ≡ true
-  pub any : Decides some ((q : ℕ) × Goes_on t k set x q)
+  pub sound : (q : ℕ) → bit new q ≡ true → GoesOn t k set x q
+  pub complete : (q : ℕ) → GoesOn t k set x q → bit new q ≡ true
+  pub any : Decides some ((q : ℕ) × GoesOn t k set x q)
 
 -- `follow`: the set is that of the first r bytes of the text, and no state of it reads the byte behind them.
 pub record Follows (t : List ℕ) (n : ℕ) (text : Text) (set : List ℕ) (r : ℕ) : Type 0 where
   pub within : r ≤ length text
   pub after : After t n (take r text) set
-  pub stuck : r < length text → (q : ℕ) → Goes_on t n set (slice_index text r) q → ⊥
+  pub stuck : r < length text → (q : ℕ) → GoesOn t n set (slice_index text r) q → ⊥
 
 -- `expected`: of the first m bytes, those are marked that some state of the set reads.
 pub record Expects (t : List ℕ) (n : ℕ) (set : List ℕ) (m : ℕ) (bytes : List ℕ) : Type 0 where
-  pub each : (x : ℕ) → x < m → Decides (bit bytes x) ((q : ℕ) × Goes_on t n set x q)
+  pub each : (x : ℕ) → x < m → Decides (bit bytes x) ((q : ℕ) × GoesOn t n set x q)
 
 -- `read`: what is said holds of every form that the table reads.
 pub record ReadsText (t : List ℕ) (e : ℕ) (text : Text) (r : Reading) : Type 0 where

@@ -1,8 +1,8 @@
 -- The conditions of a clear view, as what is asked of the automaton: sound and complete in one, by Decides.
-use Rattle.std.proofs.Common.{◌≡◌, ℕ, ◌+◌, ◌<◌, ◌≤◌, Bool, true, false, not, ◌&&◌, eqb, List, [], Decides, sym, refl, ap, ◌∙◌, arith}
+use Rattle.std.proofs.Common.{◌≡◌, ℕ, Bool, true, false, not, ◌&&◌, eqb, [], Decides, refl, arith}
 use Rattle.lens.specs.Forms.{Text, Form, empty, many, Matches, is_empty, exactly}
 use Rattle.lens.specs.Clear.{CutOnce, Apart, PartsOnce}
-use Rattle.automata.specs.Automaton.{Shape, Acts, a_none, Bounds, Meets, Crosses}
+use Rattle.automata.specs.Automaton.{Shape, Acts, a_none, Meets, Crosses}
 use Rattle.automata.proofs.Ended.{bounds_at}
 use Rattle.automata.proofs.Meet.{apart_sound, apart_complete, literal_sound, literal_complete}
 use Rattle.automata.proofs.Cut.{cut_sound, cut_complete}

@@ -1,5 +1,5 @@
 -- How states that are laid one after the other act together: one lemma for each kind of node.
-use Rattle.std.proofs.Common.{◌≡◌, ℕ, ◌+◌, ◌<◌, ◌≤◌, List, [], ◌∷◌, sym, refl, ap, ◌∙◌, subst, arith}
+use Rattle.std.proofs.Common.{◌≡◌, ℕ, ◌+◌, ◌<◌, ◌≤◌, List, refl, ◌∙◌, arith}
 use Rattle.lens.specs.Forms.{Form, empty, one, seq, or, many}
 use Rattle.automata.specs.Automaton.{Shape, to, fork, leaf, Acts, a_pass, a_none, a_one, a_seq, a_or, a_many}
 use Rattle.automata.proofs.Acting.{acts_alike}

@@ -1,5 +1,5 @@
 -- Laying a form, node by node: from what was written for the node and for its parts to the whole form.
-use Rattle.std.proofs.Common.{◌≡◌, ℕ, ◌+◌, ◌<◌, ◌≤◌, List, [], ◌∷◌, ◌++◌, length, Some, None, Option, sym, refl, ap, ◌∙◌, subst, arith, MatchOption}
+use Rattle.std.proofs.Common.{◌≡◌, ℕ, ◌+◌, List, Some, None, Option, sym, subst, arith}
 use Rattle.lens.specs.Forms.{Form, empty, one, seq, or, many}
 use Rattle.rows.specs.Rows.{form_row, FormFine}
 use Rattle.rows.specs.Stands.{Stands, Nowhere, Heads}

@@ -1,5 +1,5 @@
 -- What stands behind a node: a thing that stands in a row, taken apart where the reader says that its parts end.
-use Rattle.std.proofs.Common.{◌≡◌, ℕ, ◌+◌, ◌-◌, ◌<◌, ◌≤◌, List, [], ◌∷◌, ◌++◌, length, drop, sym, refl, ap, ◌∙◌, subst, append_assoc, arith, length-append, length-drop}
+use Rattle.std.proofs.Common.{◌≡◌, ℕ, ◌+◌, ◌<◌, ◌≤◌, List, ◌++◌, length, drop, sym, ap, ◌∙◌, subst, append_assoc, arith, length-append, length-drop}
 use Rattle.rows.specs.Stands.{Stands, Nowhere, Heads, both_row, BothFine}
 use Rattle.rows.specs.Nodes.{Tagged}
 use Rattle.rows.proofs.Builds.{Splits, Builds}

@@ -1,5 +1,5 @@
 -- Rows are never empty.
-use Rattle.std.proofs.Common.{◌≡◌, ℕ, ◌<◌, List, [], ◌∷◌, ◌++◌, length, ap, arith, length-append}
+use Rattle.std.proofs.Common.{ℕ, ◌<◌, List, length, ap, arith, length-append}
 use Rattle.lens.specs.Forms.{Form, Text}
 use Rattle.lens.specs.Views.{View}
 use Rattle.rows.specs.Rows.{form_row, text_row, view_row}

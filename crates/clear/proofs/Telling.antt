@@ -1,5 +1,5 @@
 -- From a whole row laid into the table to whether its view is clear, and to the automaton of one side.
-use Rattle.std.proofs.Common.{◌≡◌, ℕ, zero, suc, ◌+◌, ◌-◌, ◌*◌, ◌/◌, ◌<◌, ◌≤◌, ◌&&◌, List, [], ◌++◌, length, get_or, drop, Some, None, Option, sym, refl, ap, ◌∙◌, subst, append-nil, add-mul, one-mul, mul-one, mul-add, le-mul_of_pos_right, arith, MatchOption}
+use Rattle.std.proofs.Common.{◌≡◌, ℕ, zero, suc, ◌+◌, ◌-◌, ◌*◌, ◌<◌, ◌≤◌, ◌&&◌, List, ◌++◌, length, get_or, Some, None, Option, sym, refl, ap, ◌∙◌, subst, append-nil, add-mul, one-mul, mul-one, mul-add, le-mul_of_pos_right, arith}
 use lib.Seq.{drop-length}
 use Rattle.lens.specs.Views.{View}
 use Rattle.rows.specs.Rows.{view_row, ViewFine, Encodes}

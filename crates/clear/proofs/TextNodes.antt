@@ -1,13 +1,13 @@
 -- Laying a literal text: each place reads the byte behind it, and the last one goes on.
 use Rattle.std.proofs.Common.{◌≡◌, ℕ, suc, ◌+◌, ◌-◌, ◌<◌, ◌≤◌, List, [], ◌∷◌, ◌++◌, length, get_or, drop, Some, None, sym, refl, ap, ◌∙◌, subst, add-zero, arith, get_or-drop, drop-drop}
 use native.Mathlib.Decide.{dec_lt}
-use Rattle.lens.specs.Forms.{Text, Form, empty, one, seq, exactly}
+use Rattle.lens.specs.Forms.{Text, exactly}
 use Rattle.rows.specs.Rows.{text_row, TextFine}
 use Rattle.rows.specs.Stands.{Stands, Nowhere}
 use Rattle.rows.proofs.Unique.{splits_text}
 use Rattle.automata.specs.Automaton.{Shape, to, leaf, Acts, a_pass, a_none, a_one, a_seq}
 use Rattle.pairs.specs.Table.{shape_at, Changed}
-use Rattle.clear.specs.Filled.{Laid, Within, Filled, TextFills}
+use Rattle.clear.specs.Filled.{Within, TextFills}
 use Rattle.clear.proofs.Laying.{laid_somewhere, laid_length}
 
 -- The places from `at` to k read the bytes behind them; the others are as in t₀.

@@ -1,8 +1,6 @@
 -- Laying one side of a view, node by node: from what was written and found for the node and its parts to the view.
-use Rattle.std.proofs.Common.{◌≡◌, ℕ, ◌+◌, ◌<◌, ◌≤◌, Bool, true, false, not, ◌&&◌, eqb, List, [], ◌∷◌, ◌++◌, length, Some, None, Decides, Option, sym, refl, ap, ◌∙◌, subst, arith}
-use Rattle.lens.specs.Forms.{Form, Text, seq, or, many, exactly}
-use Rattle.lens.specs.Views.{View}
-use Rattle.rows.specs.Rows.{form_row, text_row, view_row, FormFine, TextFine, ViewFine}
+use Rattle.std.proofs.Common.{◌≡◌, ℕ, ◌+◌, ◌<◌, ◌≤◌, Bool, true, not, ◌&&◌, eqb, List, Some, None, Decides, sym, refl, ◌∙◌, subst, arith}
+use Rattle.rows.specs.Rows.{form_row, text_row, FormFine, TextFine}
 use Rattle.rows.specs.Stands.{Stands, Nowhere, both_row, BothFine}
 use Rattle.rows.proofs.Builds.{nowhere_first, nowhere_second}
 use Rattle.rows.proofs.Tags.{Hidden, hidden_row, HiddenFine}
@@ -11,10 +9,9 @@ use Rattle.automata.specs.Automaton.{to, fork, Meets, Crosses}
 use Rattle.pairs.specs.Table.{shape_at, Changed}
 use Rattle.clear.specs.declared.side.Side.{Side}
 use Rattle.clear.specs.declared.fill.Finding.{Finding}
-use Rattle.clear.specs.Sides.{side_form, ClearOn}
-use Rattle.clear.specs.Filled.{Laid, Within, Filled, FormFills, TextFills, Finds, ViewFills, CopyFills, HiddenFills, LiteralFills, SeriesFills, TurnedFills, ChoiceFills, PartsFills}
+use Rattle.clear.specs.Filled.{Laid, FormFills, TextFills, ViewFills, CopyFills, HiddenFills, LiteralFills, SeriesFills, TurnedFills, ChoiceFills, PartsFills}
 use Rattle.clear.proofs.Laying.{laid_somewhere, laid_ends, laid_both}
-use Rattle.clear.proofs.Lengths.{form_long, text_long, both_long}
+use Rattle.clear.proofs.Lengths.{text_long, both_long}
 use Rattle.clear.proofs.Filling.{filled_pass, filled_seq, filled_turned, filled_or, filled_many, filled_first, first_acts, second_acts}
 use Rattle.clear.proofs.Asking.{decides_three, decides_and, decides_apart, decides_cut, decides_literal, decides_parts}
 

@@ -1,5 +1,5 @@
 -- What stands at a place is a view: from what is found behind its node to what is found of the view.
-use Rattle.std.proofs.Common.{◌≡◌, ℕ, ◌+◌, ◌<◌, List, length, Some, None, Option, sym, refl, ap, ◌∙◌, subst, MatchOption}
+use Rattle.std.proofs.Common.{ℕ, ◌+◌, ◌<◌, List, length, None, Option, sym, subst, MatchOption}
 use Rattle.lens.specs.Forms.{Form, Matches, seq, or, many, exactly}
 use Rattle.lens.specs.Clear.{CutOnce, Apart, PartsOnce}
 use Rattle.lens.specs.Views.{View}
@@ -13,7 +13,7 @@ use Rattle.clear.specs.declared.side.Side.{Side}
 use Rattle.clear.specs.declared.side.Side.TheVariants.{Source, Look}
 use Rattle.clear.specs.declared.fill.Finding.{Finding}
 use Rattle.clear.specs.Sides.{side_form, ClearOn}
-use Rattle.clear.specs.Filled.{Laid, Within, Finds, Found, TwoViews, ViewFills, CopyFills, HiddenFills, LiteralFills, SeriesFills, TurnedFills, ChoiceFills, PartsFills}
+use Rattle.clear.specs.Filled.{Laid, Finds, Found, TwoViews, ViewFills, CopyFills, HiddenFills, LiteralFills, SeriesFills, TurnedFills, ChoiceFills, PartsFills}
 use Rattle.clear.proofs.Laying.{laid_somewhere, laid_behind, laid_both}
 use Rattle.clear.proofs.Lengths.{form_long, view_long, both_long}
 

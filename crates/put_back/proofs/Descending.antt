@@ -3,7 +3,6 @@ use Rattle.std.proofs.Common.{◌≡◌, ℕ, ◌+◌, ◌-◌, ◌*◌, ◌<◌
 use Rattle.lens.specs.Forms.{Matches}
 use Rattle.lens.specs.Views.{View, then, swap, either, each, sources, looks}
 use Rattle.rows.specs.Nodes.{Tagged}
-use Rattle.clear.specs.declared.side.Side.TheVariants.{Source, Look}
 use Rattle.clear.specs.Sides.{side_form}
 use Rattle.walk.specs.declared.cut_text.CutText.{CutText}
 use Rattle.walk.specs.Turns.{front, back}

@@ -1,7 +1,7 @@
 -- From what comes of the parts of a source and a look to what comes of the whole, for each kind of view.
-use Rattle.std.proofs.Common.{◌≡◌, ℕ, true, false, List, ◌++◌, sym, ◌∙◌, subst}
+use Rattle.std.proofs.Common.{◌≡◌, ℕ, true, false, List, ◌++◌, sym, subst}
 use Rattle.lens.specs.Forms.{Text, Matches}
-use Rattle.lens.specs.Views.{View, copy, hide, sources, looks, Makes, Puts, p_copy, p_hide, p_then, p_swap, p_left, p_right, p_to_left, p_to_right, each}
+use Rattle.lens.specs.Views.{View, hide, sources, looks, Makes, Puts, p_copy, p_hide, p_then, p_swap, p_left, p_right, p_to_left, p_to_right, each}
 use Rattle.rows.specs.Rows.{form_row, text_row}
 use Rattle.rows.specs.Stands.{both_row}
 use Rattle.rows.specs.Nodes.{Tagged}
@@ -9,9 +9,9 @@ use Rattle.rows.proofs.Tags.{builds_copy, builds_hide}
 use Rattle.clear.proofs.Laying.{laid_behind}
 use Rattle.clear.proofs.Lengths.{form_long, both_long}
 use Rattle.walk.specs.declared.cut_text.CutText.{CutText}
-use Rattle.walk.specs.Turns.{Turns, GivesSome, slice}
+use Rattle.walk.specs.Turns.{Turns, GivesSome}
 use Rattle.walk.specs.Turned.{on_made}
-use Rattle.walk.specs.CutWalks.{Ends, other_part, Takes, CutWalk}
+use Rattle.walk.specs.CutWalks.{Ends, other_part, Takes}
 use Rattle.walk.proofs.Pieces.{slice_both, exactly_is}
 use Rattle.walk.proofs.Descending.{then_two, swap_two, either_two}
 use Rattle.walk.proofs.Giving.{Joins}

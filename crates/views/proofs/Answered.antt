@@ -1,9 +1,8 @@
 -- The answers of `judge`: each says what it should, and few exactly below the floor.
-use Rattle.std.proofs.Common.{◌≡◌, ℕ, ◌<◌, ◌≤◌, true, false, List, length, sym, refl, ◌∙◌, subst, arith}
+use Rattle.std.proofs.Common.{◌≡◌, ℕ, ◌<◌, ◌≤◌, true, false, List, sym, refl, ◌∙◌, subst, arith}
 use Rattle.lens.proofs.Works.{clear_works}
 use Rattle.lens.proofs.Lawful.{clear_lawful}
 use Rattle.lens.proofs.Edits.{clear_lasting}
-use Rattle.rows.specs.Rows.{Encodes}
 use Rattle.rows.specs.Reads.{IsView}
 use Rattle.rows.proofs.Unique.{one_view}
 use Rattle.automata.proofs.Told.{told}

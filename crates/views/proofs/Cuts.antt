@@ -1,5 +1,5 @@
 -- A text that is cut: what the passes over it found.
-use Rattle.std.proofs.Common.{◌≡◌, ℕ, ◌<◌, true, false, List, length, refl, subst}
+use Rattle.std.proofs.Common.{ℕ, ◌<◌, List, length, subst}
 use Rattle.lens.specs.Views.{View}
 use Rattle.rows.specs.Rows.{Encodes}
 use Rattle.clear.proofs.Lengths.{view_long}

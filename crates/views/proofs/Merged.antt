@@ -1,5 +1,5 @@
 -- The answers of `put`: what was delivered is what comes of the look put back into the source.
-use Rattle.std.proofs.Common.{◌≡◌, ℕ, List, sym, refl, subst}
+use Rattle.std.proofs.Common.{ℕ, List, sym, refl, subst}
 use Rattle.lens.specs.Forms.{Text, Matches}
 use Rattle.lens.specs.Views.{View, looks, Puts}
 use Rattle.clear.specs.declared.side.Side.TheVariants.{Source, Look}

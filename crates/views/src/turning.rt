@@ -55,13 +55,7 @@ fn turn_clear(view: &[u8], side: Side, text: &[u8], out: &mut [u8], work: &mut [
         return Made::Full;
     }
     let _ = write_turned(
-        view,
-        cut.side,
-        &cut.tree,
-        cut.text,
-        cut.starts,
-        cut.marks,
-        out,
+        view, cut.side, &cut.tree, cut.text, cut.starts, cut.marks, out,
     );
     Made::Done(len)
 }

@@ -3,7 +3,7 @@ use Rattle.std.proofs.Common.{◌≡◌, ℕ, ◌+◌, ◌-◌, ◌*◌, ◌<◌
 use Rattle.std.proofs.lemmas.List.{drop_all}
 use Rattle.lens.specs.Forms.{Matches}
 use Rattle.lens.specs.Views.{View}
-use Rattle.rows.specs.Rows.{view_row, ViewFine, Encodes}
+use Rattle.rows.specs.Rows.{view_row, Encodes}
 use Rattle.rows.specs.Nodes.{Tagged}
 use Rattle.clear.specs.declared.side.Side.{Side}
 use Rattle.clear.specs.declared.side.Side.TheVariants.{Source, Look}

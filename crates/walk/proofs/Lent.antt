@@ -1,5 +1,5 @@
 -- A text whose tree, starts and marks are lent one by one, as a cut text that has them together.
-use Rattle.std.proofs.Common.{ℕ, ◌-◌, List, length, sym, subst, arith}
+use Rattle.std.proofs.Common.{ℕ, ◌-◌, List, length, subst, arith}
 use Rattle.std.proofs.lemmas.List.{take_all}
 use Rattle.lens.specs.Forms.{Text}
 use Rattle.lens.specs.Views.{View}

@@ -21,6 +21,5 @@ pub use sink::Sink;
 pub use turned::Turned;
 pub use turning::turn_part;
 pub use walk::turn;
-pub use whole::turned_len;
-pub use whole::write_turned;
+pub use whole::{turned_len, write_turned};
 pub use written::Written;

@@ -12,7 +12,14 @@ use rows::{ViewNode, view_node};
 
 // Gives what the part of the view at `place`, from `at` to `end` of the text, turns into on the other side.
 #[cycle(turning)]
-pub fn turn_part<S: Sink>(row: &[u8], cut: &CutText, place: usize, at: usize, end: usize, sink: &mut S)
+pub fn turn_part<S: Sink>(
+    row: &[u8],
+    cut: &CutText,
+    place: usize,
+    at: usize,
+    end: usize,
+    sink: &mut S,
+)
     requires short { length row.now ≤ 1024 }
     requires sound { Sound cut.now }
     requires walks { CutWalks row.now cut.now place at «end» }

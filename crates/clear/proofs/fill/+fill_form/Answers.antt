@@ -4,7 +4,7 @@ use Rattle.rows.specs.Nodes.{IsFormNode}
 use Rattle.rows.proofs.Builds.{nowhere_first, nowhere_tagged}
 use Rattle.rows.proofs.Tags.{builds_seq, builds_or}
 use Rattle.pairs.proofs.Tables.{bounded_changed}
-use Rattle.clear.proofs.FormNodes.{fills_nowhere, fills_unlaid, first_of_seq, first_of_or, fills_empty, fills_one, fills_seq, fills_or, fills_many}
+use Rattle.clear.proofs.FormNodes.{fills_nowhere, fills_empty, fills_one, fills_seq, fills_or, fills_many}
 use Rattle.clear.proofs.fill.+fill_form.Goals as goal
 
 -- Leaves

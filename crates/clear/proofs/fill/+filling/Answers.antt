@@ -1,8 +1,7 @@
-use Rattle.std.proofs.Common.{sym, refl, subst}
+use Rattle.std.proofs.Common.{refl}
 use Rattle.rows.specs.Rows.{view_row, ViewFine}
 use Rattle.rows.proofs.Builds.{nowhere_first, nowhere_tagged}
 use Rattle.rows.proofs.Tags.{builds_then, builds_swap, builds_either}
-use Rattle.clear.specs.Filled.{ViewFills, SeriesFills, TurnedFills}
 use Rattle.clear.proofs.ViewNodes.{finds_series, finds_turned, finds_choice, finds_parts}
 use Rattle.clear.proofs.Views.{view_nowhere, view_copy, view_hidden, view_literal, view_then, view_swap, view_turned, view_either, view_each}
 use Rattle.clear.proofs.fill.+filling.Goals as goal

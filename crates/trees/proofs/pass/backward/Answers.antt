@@ -1,4 +1,4 @@
-use Rattle.std.proofs.Common.{◌+◌, ◌-◌, ◌*◌, ◌≤◌, length, arith}
+use Rattle.std.proofs.Common.{◌-◌, length, arith}
 use Rattle.trees.proofs.Tables.{row_within, tabled_none, tabled_more, tabled_all}
 use Rattle.trees.proofs.pass.backward.Goals as goal
 

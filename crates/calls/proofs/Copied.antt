@@ -1,5 +1,5 @@
 -- A row that is copied to the front of lent bytes.
-use Rattle.std.proofs.Common.{◌≡◌, ℕ, ◌-◌, List, ◌++◌, length, take, drop, sym, ap, ◌∙◌, subst, arith, take_at, drop_at}
+use Rattle.std.proofs.Common.{◌≡◌, ℕ, ◌-◌, List, ◌++◌, length, sym, ◌∙◌, subst, arith, take_at, drop_at}
 use borrow.Rule.Slice.PartMut.{post_of, Post-is}
 use Rattle.lens.specs.Views.{View}
 use Rattle.rows.specs.Rows.{Encodes}

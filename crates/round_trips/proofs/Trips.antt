@@ -1,16 +1,13 @@
 -- The laws of a clear view, from what two calls promise.
 use mathlib.Core.Path.{◌≡◌, refl, sym, ap, subst, ◌∙◌}
-use mathlib.Core.Logic.{◌↔◌}
 use mathlib.Core.List.{List}
-use Prim.Native.Nat.{ℕ, ◌+◌, ◌≤◌, ◌<◌}
+use Prim.Native.Nat.{ℕ, ◌+◌, ◌≤◌}
 use native.Mathlib.Omega.{arith}
 use lib.ListN.{length, take, length-take}
 use Rattle.lens.specs.Forms.{Text}
-use Rattle.lens.specs.Views.{View, Shows, Puts}
-use Rattle.lens.specs.Clear.{Clear}
+use Rattle.lens.specs.Views.{Shows, Puts}
 use Rattle.lens.proofs.Works.{clear_works}
 use Rattle.lens.proofs.Lawful.{clear_lawful}
-use Rattle.rows.specs.Rows.{Encodes}
 use Rattle.rows.proofs.Unique.{one_view}
 use Rattle.views.specs.declared.made.Made.{Made}
 use Rattle.views.specs.declared.made.Made.TheVariants.{Done, Muddy, NoSuch, NoSource, NoLook, Full, Small}

@@ -3,9 +3,10 @@
 
 usage: python3 tools/respell.py [--list]
 
-Run once at the top of the checkout, behind the kit's port.py. It takes the names that specs/ and proofs/ define (types,
-constructors, fields, functions and lemmas, no goals), and respells them wherever they are cited: in .antt files, in the
-clauses of .rt files, and between backquotes in comments, README.md and docs/. Functions of src/, strings and what the
+Run at the top of the checkout, behind the kit's port.py; a second run changes nothing. It takes the names that specs/ and
+proofs/ define (types, constructors, fields, functions and lemmas, no goals), and respells them wherever they are cited: in
+.antt files, in the clauses of .rt files, and between backquotes in comments, README.md and docs/. So it does with what a
+file of specs/ or proofs/ binds for itself. Functions of src/, strings and what the
 programs read and print are left alone. --list prints the old and new names, and changes nothing.
 """
 
@@ -73,6 +74,16 @@ def mapping():
 TAKEN = {"Form-node": "IsFormNode", "View-node": "IsViewNode"}
 
 
+LOCAL = re.compile(r"--[^\n]*|(?<![\w'.\-])(?P<name>[a-z][\w']*(?:-[\w']+)+)(?![\w'\-])")
+
+
+def own(text):
+    """The text of a file with what it binds for itself, in a `let`, a pattern or a `where`, in snake case."""
+    away = {name.strip().split(" as ")[-1] for found in re.findall(r"^use [^{\n]*\{([^}]*)\}", text, re.M) for name in found.split(",")}
+    away |= set(re.findall(r"\bgoal\.([\w'\-]+)", text))
+    return LOCAL.sub(lambda m: m[0] if m["name"] is None or m["name"] in away else snake(m[0]), text)
+
+
 def main():
     turned, known = mapping()
     together = {}
@@ -85,10 +96,10 @@ def main():
         for old in sorted(turned):
             print(old, turned[old])
         return
-    pattern = re.compile(r"(?<![\w'\-])(?P<goal>goal\.)?(?P<name>" + "|".join(re.escape(n) for n in sorted(turned, key=len, reverse=True)) + r")(?![\w'\-])")
+    word = re.compile(r"(?<![\w'\-])(?P<goal>goal\.)?(?P<name>" + NAME + r")(?![\w'\-])")
 
     def respell(text):
-        return pattern.sub(lambda m: m[0] if m["goal"] else turned[m["name"]], text)
+        return word.sub(lambda m: m[0] if m["goal"] else turned.get(m["name"], m["name"]), text)
 
     def quoted(text):
         return re.sub(r"`[^`\n]+`", lambda m: respell(m[0]), text)
@@ -119,6 +130,8 @@ def main():
             with open(path, encoding="utf-8") as f:
                 before = f.read()
             after = "\n".join(turn(line) for line in before.split("\n"))
+            if name.endswith(".antt"):
+                after = own(after)
             if after != before:
                 with open(path, "w", encoding="utf-8") as f:
                     f.write(after)

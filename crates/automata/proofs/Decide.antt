@@ -42,10 +42,10 @@ module _ {A : Type 0} (same : (x y : A) → Decided (x ≡ y)) where
       reached_decided n (ended_stops b shape) (closed_alike alike c.closing) (closed_alike alike d.closing) p q (n, n) c.start d.start
 
   -- `ok` is for the states before m, and `ok'` for all those before n.
-  module _ {shape : A → Shape A} {at-m at_n : A → Bool} {ok ok' : A → Type 0} {f g : Form} {i m n : A} (bm : Bounds at-m ok m)
+  module _ {shape : A → Shape A} {at_m at_n : A → Bool} {ok ok' : A → Type 0} {f g : Form} {i m n : A} (bm : Bounds at_m ok m)
       (bn : Bounds at_n ok n) (bn' : Bounds at_n ok' n) (a : Acts shape ok f i m) (b : Acts shape ok' g i n) where
     abbrev to_m : A → Shape A
-    to_m = ended at-m shape
+    to_m = ended at_m shape
 
     abbrev to_n : A → Shape A
     to_n = ended at_n shape
@@ -77,7 +77,7 @@ module _ {A : Type 0} (same : (x y : A) → Decided (x ≡ y)) where
         go (inl l) (inr h) = inr (λ z. h z.1)
         go (inl l) (inl h) = let (u, r, s) = path_eats to_m h in last l h (reached_decided n (ended_stops bn' shape) all_parts all_parts m q (n, n) (carried u m r) (carried u q s))
 
-    pub crosses_decided : Decided (Crosses at-m at_n shape i m n)
+    pub crosses_decided : Decided (Crosses at_m at_n shape i m n)
     crosses_decided = elim (any_decided CrossesAt crosses_at (m ∷ (closed a).states)) [
       | inl z ↦ inl (z.0, z.2.0, z.2.1, z.2.2)
       | inr z ↦ inr (λ (q, l, h, k). z (q, (reached_stays m (ended_stops bm shape) first_part first_part (i, i) (m, q) (closed a).start (closed a).start h).1, (l, h, k)))

@@ -16,12 +16,12 @@ nullable_sound (seq f g) e = on_both (nullable f) refl (nullable_sound f) (nulla
         cond x (nullable g) false ≡ true → Matches (seq f g) []
     on_both true i a b e = is_seq [] [] (a i) (b e)
     on_both false i a b e = absurd (clash e)
-nullable_sound (or f g) e = on-either (nullable f) refl (nullable_sound f) (nullable_sound g) e
+nullable_sound (or f g) e = on_either (nullable f) refl (nullable_sound f) (nullable_sound g) e
   where
-    on-either : (x : Bool) → nullable f ≡ x → (nullable f ≡ true → Matches f []) → (nullable g ≡ true → Matches g []) →
+    on_either : (x : Bool) → nullable f ≡ x → (nullable f ≡ true → Matches f []) → (nullable g ≡ true → Matches g []) →
         cond x true (nullable g) ≡ true → Matches (or f g) []
-    on-either true i a b e = is_left (a i)
-    on-either false i a b e = is_right (b e)
+    on_either true i a b e = is_left (a i)
+    on_either false i a b e = is_right (b e)
 nullable_sound (many f) e = is_none
 
 true_or : (x : Bool) → cond x true true ≡ true

@@ -96,7 +96,7 @@ Meets at_n shape p q n = Reached (ended at_n shape) (p, q) (n, n)
 -- Two runs from i cross: one has come to m while the other is about to read one byte more before m, and from
 -- there both come to n with the same text.
 abbrev pub Crosses : {A : Type 0} → (A → Bool) → (A → Bool) → (A → Shape A) → A → A → A → Type 0
-Crosses {A} at-m at_n shape i m n = (q : A) × Leaf (ended at-m shape q) × Reached (ended at-m shape) (i, i) (m, q) × Reached (ended at_n shape) (m, q) (n, n)
+Crosses {A} at_m at_n shape i m n = (q : A) × Leaf (ended at_m shape q) × Reached (ended at_m shape) (i, i) (m, q) × Reached (ended at_n shape) (m, q) (n, n)
 
 -- The empty text is of the form.
 abbrev pub nullable : Form → Bool

@@ -42,10 +42,10 @@ module _ (shape : ℕ → Shape ℕ) {low high low' high' : ℕ} {g : Form} {p q
 
 -- The empty text is of a form exactly if the form isn't apart from the empty form.
 decides_some : {f : Form} (b : Bool) → Decides b (Apart f empty) → Decides b (Matches f [] → ⊥)
-decides_some {f} b = decides_as b (λ apart m. apart [] m is_empty) (λ none u m e. only-empty (λ v. Matches f v → ⊥) none e m)
+decides_some {f} b = decides_as b (λ apart m. apart [] m is_empty) (λ none u m e. only_empty (λ v. Matches f v → ⊥) none e m)
   where
-    only-empty : (P : Text → Type 0) → P [] → {u : Text} → Matches empty u → P u
-    only-empty P h is_empty = h
+    only_empty : (P : Text → Type 0) → P [] → {u : Text} → Matches empty u → P u
+    only_empty P h is_empty = h
 
 -- Parts once: the state m acts as many parts, and p as one of them; the empty text is no part.
 module _ (shape : ℕ → Shape ℕ) {low high low' high' : ℕ} {f : Form} {p n : ℕ} (out : Within low high n → ⊥) (out' : Within low' high' n → ⊥) where

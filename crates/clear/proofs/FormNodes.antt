@@ -58,10 +58,10 @@ module _ {s : List ℕ} {at m : ℕ} where
   fills_seq {i} {x} {next} {t₀} {t₁} {t₂} {t₃} g a c first (Some y) second = record {
     fills = λ f e l.
         let (p, is, q) = two_seq g a f e l in
-        let (_, f-filled) = first.fills p.0 m q.0 in
-        let (ends, g-filled) = second.fills p.1 e q.1 in
-        let i-is = g.behind in
-        let whole : Filled t₀ t₃ at e at next (seq p.0 p.1) = filled_seq (subst (λ z. Changed t₀ t₁ at (to z)) i-is c) (subst (λ z. Filled t₁ t₂ z m z m p.0) i-is f-filled) g-filled (omega (arith, a.less, i-is)) q.1.less in
+        let (_, f_filled) = first.fills p.0 m q.0 in
+        let (ends, g_filled) = second.fills p.1 e q.1 in
+        let i_is = g.behind in
+        let whole : Filled t₀ t₃ at e at next (seq p.0 p.1) = filled_seq (subst (λ z. Changed t₀ t₁ at (to z)) i_is c) (subst (λ z. Filled t₁ t₂ z m z m p.0) i_is f_filled) g_filled (omega (arith, a.less, i_is)) q.1.less in
         (ends, subst (λ h. Filled t₀ t₃ at e at next h) (sym is) whole);
   }
 
@@ -70,10 +70,10 @@ module _ {s : List ℕ} {at m : ℕ} where
   fills_or {i} {x} {next} {t₀} {t₁} {t₂} {t₃} g a c first (Some y) second = record {
     fills = λ f e l.
         let (p, is, q) = two_or g a f e l in
-        let (_, f-filled) = first.fills p.0 m q.0 in
-        let (ends, g-filled) = second.fills p.1 e q.1 in
-        let i-is = g.behind in
-        let whole : Filled t₀ t₃ at e at next (or p.0 p.1) = filled_or (subst (λ z. Changed t₀ t₁ at (fork z m)) i-is c) (subst (λ z. Filled t₁ t₂ z m z next p.0) i-is f-filled) g-filled (omega (arith, a.less, i-is)) q.1.less in
+        let (_, f_filled) = first.fills p.0 m q.0 in
+        let (ends, g_filled) = second.fills p.1 e q.1 in
+        let i_is = g.behind in
+        let whole : Filled t₀ t₃ at e at next (or p.0 p.1) = filled_or (subst (λ z. Changed t₀ t₁ at (fork z m)) i_is c) (subst (λ z. Filled t₁ t₂ z m z next p.0) i_is f_filled) g_filled (omega (arith, a.less, i_is)) q.1.less in
         (ends, subst (λ h. Filled t₀ t₃ at e at next h) (sym is) whole);
   }
 
@@ -82,8 +82,8 @@ fills_many {at = at} {i = i} {next = next} {t₀ = t₀} {t₁ = t₁} {t₂ = t
 fills_many {at = at} {i = i} {next = next} {t₀ = t₀} {t₁ = t₁} {t₂ = t₂} g c (Some y) body = record {
   fills = λ f e l.
       let (p, is, q) = laid_behind builds_many form_long g l in
-      let (ends, p-filled) = body.fills p e q in
-      let i-is = g.behind in
-      let whole : Filled t₀ t₂ at e at next (many p) = filled_many (subst (λ z. Changed t₀ t₁ at (fork next z)) i-is c) (subst (λ z. Filled t₁ t₂ z e z at p) i-is p-filled) (omega (arith, q.less, i-is)) in
+      let (ends, p_filled) = body.fills p e q in
+      let i_is = g.behind in
+      let whole : Filled t₀ t₂ at e at next (many p) = filled_many (subst (λ z. Changed t₀ t₁ at (fork next z)) i_is c) (subst (λ z. Filled t₁ t₂ z e z at p) i_is p_filled) (omega (arith, q.less, i_is)) in
       (ends, subst (λ h. Filled t₀ t₂ at e at next h) (sym is) whole);
 }

@@ -39,8 +39,8 @@ pub fills_text : {s : List ℕ} {at next x : ℕ} {t₀ t₁ t₂ : List ℕ} �
 fills_text {s} {at} {next} {x} {t₀} {t₁} {t₂} a chain c = record {
   fills = λ v e l.
       let same : a.thing ≡ v = ((splits_text a.thing).only v (drop x s) (drop e s) (sym a.laid ∙ l.laid)).0 in
-      let x-is : x ≡ at + suc (length v) = laid_length text_row s at x a.thing (omega (arith, a.less, a.within)) a.within a.laid ∙ ap (λ z. at + suc (length z)) same in
-      let e-is : e ≡ at + suc (length v) = laid_length text_row s at e v (omega (arith, l.less, l.within)) l.within l.laid in
+      let x_is : x ≡ at + suc (length v) = laid_length text_row s at x a.thing (omega (arith, a.less, a.within)) a.within a.laid ∙ ap (λ z. at + suc (length z)) same in
+      let e_is : e ≡ at + suc (length v) = laid_length text_row s at e v (omega (arith, l.less, l.within)) l.within l.laid in
       let ends : x ≡ e = omega arith in
       let behind : drop (at + 1) s ≡ v ++ drop e s = sym (drop-drop 1 at s) ∙ ap (λ z. drop 1 z) l.laid in
       let last : at + length v ≡ x - 1 = omega arith in (

@@ -24,10 +24,10 @@ answered {P} e d = subst (λ z. Decides z P) (sym e) d
 
 -- copy
 pub finds_copy : {s : List ℕ} {at next x : ℕ} {t₀ t₁ t₂ : List ℕ} {q : Finding} → Changed t₀ t₁ at (to (at + 1)) → FormFills s (at + 1) next t₁ t₂ (Some x) → q.end ≡ x → q.clear ≡ true → CopyFills s at next t₀ t₂ (Some q)
-finds_copy {at = at} c a ends yes-clear = record {
+finds_copy {at = at} c a ends yes_clear = record {
   fills = λ f e l out.
-      let (x-is, filled) = a.fills f e l in
-      record { ends = ends ∙ x-is; filled = filled_pass (at + 1) c filled (omega arith) l.less (omega arith); decides = always yes-clear };
+      let (x_is, filled) = a.fills f e l in
+      record { ends = ends ∙ x_is; filled = filled_pass (at + 1) c filled (omega arith) l.less (omega arith); decides = always yes_clear };
 }
 
 -- hide: where its form and its two texts stand
@@ -61,26 +61,26 @@ pub finds_hidden : {s : List ℕ} {at m m' next x y : ℕ} {t₀ t₁ t₂ t₃ 
 finds_hidden {at = at} {m = m} {m' = m'} {t₃ = t₃} {q = q} a b c form fresh met ends = record {
   fills = λ p e l out.
       let (f, (v, d)) = hidden_parts at a b p l in
-      let (_, f-filled) = form.fills p.0 m f in
-      let (y-is, d-filled) = fresh.fills p.1.1 e d in
+      let (_, f_filled) = form.fills p.0 m f in
+      let (y_is, d_filled) = fresh.fills p.1.1 e d in
       let before : at < m = omega (arith, f.less) in
       let between : m ≤ m' = omega (arith, v.less) in
       record {
-        ends = ends ∙ y-is;
-        filled = filled_first c f-filled d-filled before between d.less refl;
-        decides = decides_literal (shape_at t₃) p.1.1 (λ w. out (omega arith)) (λ w. out (omega (arith, d.less))) (second_acts c f-filled d-filled before between d.less {start = m'} {end = e} (omega arith) (omega arith)) (first_acts c f-filled d-filled before between d.less {start = at + 1} {end = m} (omega arith) (omega arith)) q.clear met;
+        ends = ends ∙ y_is;
+        filled = filled_first c f_filled d_filled before between d.less refl;
+        decides = decides_literal (shape_at t₃) p.1.1 (λ w. out (omega arith)) (λ w. out (omega (arith, d.less))) (second_acts c f_filled d_filled before between d.less {start = m'} {end = e} (omega arith) (omega arith)) (first_acts c f_filled d_filled before between d.less {start = at + 1} {end = m} (omega arith) (omega arith)) q.clear met;
       };
 }
 
 pub finds_literal : {s : List ℕ} {at m m' x y next : ℕ} {t₀ t₁ t₂ : List ℕ} {q : Finding} → Stands form_row FormFine s (at + 1) m → Stands text_row TextFine s m m' → Stands text_row TextFine s m' y → Changed t₀ t₁ at (to m) → TextFills s m next t₁ t₂ (Some x) → q.end ≡ y → q.clear ≡ true → LiteralFills s at next t₀ t₂ (Some q)
-finds_literal {at = at} {m = m} {m' = m'} a b b' c shown ends yes-clear = record {
+finds_literal {at = at} {m = m} {m' = m'} a b b' c shown ends yes_clear = record {
   fills = λ p e l out.
       let (f, (v, d)) = hidden_parts at a b p l in
-      let (_, v-filled) = shown.fills p.1.0 m' v in
+      let (_, v_filled) = shown.fills p.1.0 m' v in
       record {
         ends = ends ∙ laid_ends splits_text b' d;
-        filled = filled_pass m c v-filled (omega (arith, f.less)) v.less (omega (arith, d.less));
-        decides = always yes-clear;
+        filled = filled_pass m c v_filled (omega (arith, f.less)) v.less (omega (arith, d.less));
+        decides = always yes_clear;
       };
 }
 
@@ -88,10 +88,10 @@ finds_literal {at = at} {m = m} {m' = m'} a b b' c shown ends yes-clear = record
 module _ {side : Side} {s : List ℕ} {at m next : ℕ} {t₀ t₁ t₂ t₃ : List ℕ} {q₁ q₂ q : Finding} {b : Bool} (h : at < m) (ends : q.end ≡ q₂.end) (told : q.clear ≡ (q₁.clear && q₂.clear) && not b) where
   pub finds_series : Changed t₀ t₁ at (to (at + 1)) → ViewFills side s (at + 1) m t₁ t₂ (Some q₁) → ViewFills side s m next t₂ t₃ (Some q₂) → Decides b (Crosses (λ z. eqb z m) (λ z. eqb z next) (shape_at t₃) (at + 1) m next) → SeriesFills side s at m next t₀ t₃ (Some q)
   finds_series c first second crossed = record {
-    fills = λ k l e k-laid l-laid out.
-        let f = first.fills k m k-laid (λ w. omega arith) in
-        let g = second.fills l e l-laid (λ w. out (omega arith)) in
-        let less : m < e = l-laid.less in
+    fills = λ k l e k_laid l_laid out.
+        let f = first.fills k m k_laid (λ w. omega arith) in
+        let g = second.fills l e l_laid (λ w. out (omega arith)) in
+        let less : m < e = l_laid.less in
         record {
           ends = ends ∙ g.ends;
           filled = filled_seq c f.filled g.filled h less;
@@ -102,11 +102,11 @@ module _ {side : Side} {s : List ℕ} {at m next : ℕ} {t₀ t₁ t₂ t₃ : L
 
   pub finds_turned : Changed t₀ t₁ at (to m) → ViewFills side s (at + 1) next t₁ t₂ (Some q₁) → ViewFills side s m (at + 1) t₂ t₃ (Some q₂) → Decides b (Crosses (λ z. eqb z (at + 1)) (λ z. eqb z next) (shape_at t₃) m (at + 1) next) → TurnedFills side s at m next t₀ t₃ (Some q)
   finds_turned c first second crossed = record {
-    fills = λ k l e k-laid l-laid out.
-        let less : m < e = l-laid.less in
-        let more : at + 1 < m = k-laid.less in
-        let f = first.fills k m k-laid (λ w. out (omega arith)) in
-        let g = second.fills l e l-laid (λ w. omega arith) in
+    fills = λ k l e k_laid l_laid out.
+        let less : m < e = l_laid.less in
+        let more : at + 1 < m = k_laid.less in
+        let f = first.fills k m k_laid (λ w. out (omega arith)) in
+        let g = second.fills l e l_laid (λ w. omega arith) in
         record {
           ends = ends ∙ g.ends;
           filled = filled_turned c f.filled g.filled h less;
@@ -117,10 +117,10 @@ module _ {side : Side} {s : List ℕ} {at m next : ℕ} {t₀ t₁ t₂ t₃ : L
 
   pub finds_choice : Changed t₀ t₁ at (fork (at + 1) m) → ViewFills side s (at + 1) next t₁ t₂ (Some q₁) → ViewFills side s m next t₂ t₃ (Some q₂) → Decides b (Meets (λ z. eqb z next) (shape_at t₃) (at + 1) m next) → ChoiceFills side s at m next t₀ t₃ (Some q)
   finds_choice c first second met = record {
-    fills = λ k l e k-laid l-laid out.
-        let less : m < e = l-laid.less in
-        let f = first.fills k m k-laid (λ w. out (omega arith)) in
-        let g = second.fills l e l-laid (λ w. out (omega arith)) in
+    fills = λ k l e k_laid l_laid out.
+        let less : m < e = l_laid.less in
+        let f = first.fills k m k_laid (λ w. out (omega arith)) in
+        let g = second.fills l e l_laid (λ w. out (omega arith)) in
         record {
           ends = ends ∙ g.ends;
           filled = filled_or c f.filled g.filled h less;
@@ -132,9 +132,9 @@ module _ {side : Side} {s : List ℕ} {at m next : ℕ} {t₀ t₁ t₂ t₃ : L
 -- Any number of parts
 pub finds_parts : {side : Side} {s : List ℕ} {at next : ℕ} {t₀ t₁ t₂ : List ℕ} {q₁ q : Finding} {a b : Bool} → q.end ≡ q₁.end → q.clear ≡ q₁.clear && (not a && not b) → Changed t₀ t₁ at (fork next (at + 1)) → ViewFills side s (at + 1) at t₁ t₂ (Some q₁) → Decides a (Meets (λ z. eqb z at) (shape_at t₂) (at + 1) at at) → Decides b (Crosses (λ z. eqb z at) (λ z. eqb z next) (shape_at t₂) (at + 1) at next) → PartsFills side s at next t₀ t₂ (Some q)
 finds_parts {at = at} {t₂ = t₂} {q₁ = q₁} {a = a} {b = b} ends told c body none crossed = record {
-  fills = λ l e l-laid out.
-      let f = body.fills l e l-laid (λ w. omega arith) in
-      let whole = filled_many c f.filled l-laid.less in
+  fills = λ l e l_laid out.
+      let f = body.fills l e l_laid (λ w. omega arith) in
+      let whole = filled_many c f.filled l_laid.less in
       record {
         ends = ends ∙ f.ends;
         filled = whole;

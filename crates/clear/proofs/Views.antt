@@ -36,9 +36,9 @@ module _ {side : Side} {s : List ℕ} {at i next : ℕ} {t t' : List ℕ} {r : O
   found_two {m = m} join holds b same g a found = record {
     fills = λ v e l out.
         let (p, is, parts) = laid_behind b (both_long view_row view_row view_long) g l in
-        let (k-laid, l-laid) = laid_both splits_view view_long p a parts in
-        let k-laid' : Laid view_row ViewFine s (at + 1) m p.0 = subst (λ z. Laid view_row ViewFine s z m p.0) g.behind k-laid in
-        subst (λ w. MatchOption r ⊥ (Finds t t' at e next (side_form side w) (ClearOn side w))) (sym is) (same p.0 p.1 e (found p.0 p.1 e k-laid' l-laid out));
+        let (k_laid, l_laid) = laid_both splits_view view_long p a parts in
+        let k_laid' : Laid view_row ViewFine s (at + 1) m p.0 = subst (λ z. Laid view_row ViewFine s z m p.0) g.behind k_laid in
+        subst (λ w. MatchOption r ⊥ (Finds t t' at e next (side_form side w) (ClearOn side w))) (sym is) (same p.0 p.1 e (found p.0 p.1 e k_laid' l_laid out));
   }
 
 pub view_copy : (side : Side) {s : List ℕ} {at i next : ℕ} {t t' : List ℕ} {r : Option Finding} → Tagged s at 10 i → CopyFills s at next t t' r → ViewFills side s at next t t' r

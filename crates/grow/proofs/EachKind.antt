@@ -37,10 +37,10 @@ form_one {a = a} {b = b} = leaf_grows (one a b) (One a b) (λ words is. (grows_o
 
 module _ {s : List ℕ} {at i top : ℕ} {t₀ t₁ t₂ : List ℕ} where
   pub form_seq : {m : ℕ} {t₃ : List ℕ} → Tagged s at 2 i → Stands form_row FormFine s i m → Changed t₀ t₁ at (Seq i m) top → FormGrows s i at t₁ t₂ → FormGrows s m at t₂ t₃ → FormGrows s at top t₀ t₃
-  form_seq = two_grow splits_form form_long builds_seq joins_seq (λ t q m f g m-is here a b. grows_seq (q + 1) m here a b)
+  form_seq = two_grow splits_form form_long builds_seq joins_seq (λ t q m f g m_is here a b. grows_seq (q + 1) m here a b)
 
   pub form_or : {m : ℕ} {t₃ : List ℕ} → Tagged s at 3 i → Stands form_row FormFine s i m → Changed t₀ t₁ at (Or i m) top → FormGrows s i at t₁ t₂ → FormGrows s m at t₂ t₃ → FormGrows s at top t₀ t₃
-  form_or = two_grow splits_form form_long builds_or joins_or (λ t q m f g m-is here a b. grows_or (q + 1) m here a b)
+  form_or = two_grow splits_form form_long builds_or joins_or (λ t q m f g m_is here a b. grows_or (q + 1) m here a b)
 
   pub form_many : Tagged s at 4 i → Changed t₀ t₁ at (Many i) top → FormGrows s i at t₁ t₂ → FormGrows s at top t₀ t₂
   form_many = one_grows form_long builds_many wraps_many (λ t q f here a. grows_many (q + 1) here a)
@@ -51,18 +51,18 @@ module _ (side : Side) {s : List ℕ} {at i top : ℕ} {t₀ t₁ t₂ : List �
   view_copy = one_grows form_long builds_copy wraps_same (λ t q f here a. planted_copy here a)
 
   pub view_then : {m : ℕ} {t₃ : List ℕ} → Tagged s at 12 i → Stands view_row ViewFine s i m → Changed t₀ t₁ at (Seq i m) top → ViewGrows side s i at t₁ t₂ → ViewGrows side s m at t₂ t₃ → ViewGrows side s at top t₀ t₃
-  view_then = two_grow splits_view view_long builds_then joins_seq (λ t q m k l m-is here a b. planted_then m m-is here a b)
+  view_then = two_grow splits_view view_long builds_then joins_seq (λ t q m k l m_is here a b. planted_then m m_is here a b)
 
   pub view_either : {m : ℕ} {t₃ : List ℕ} → Tagged s at 14 i → Stands view_row ViewFine s i m → Changed t₀ t₁ at (Or i m) top → ViewGrows side s i at t₁ t₂ → ViewGrows side s m at t₂ t₃ → ViewGrows side s at top t₀ t₃
-  view_either = two_grow splits_view view_long builds_either joins_or (λ t q m k l m-is here a b. planted_either m m-is here a b)
+  view_either = two_grow splits_view view_long builds_either joins_or (λ t q m k l m_is here a b. planted_either m m_is here a b)
 
   pub view_each : Tagged s at 15 i → Changed t₀ t₁ at (Many i) top → ViewGrows side s i at t₁ t₂ → ViewGrows side s at top t₀ t₂
   view_each = one_grows view_long builds_each wraps_many (λ t q l here a. planted_each here a)
 
 -- The looks of a swap stand in the other order.
 pub view_swap : (side : Side) {s : List ℕ} {at i m top : ℕ} {t₀ t₁ t₂ t₃ : List ℕ} → Tagged s at 13 i → Stands view_row ViewFine s i m → Changed t₀ t₁ at (swapped side i m) top → ViewGrows side s i at t₁ t₂ → ViewGrows side s m at t₂ t₃ → ViewGrows side s at top t₀ t₃
-view_swap Source = two_grow splits_view view_long builds_swap joins_seq (λ t q m k l m-is here a b. planted_swap m m-is here a b)
-view_swap Look = two_grow splits_view view_long builds_swap joins_turned (λ t q m k l m-is here a b. planted_turned m m-is here a b)
+view_swap Source = two_grow splits_view view_long builds_swap joins_seq (λ t q m k l m_is here a b. planted_swap m m_is here a b)
+view_swap Look = two_grow splits_view view_long builds_swap joins_turned (λ t q m k l m_is here a b. planted_turned m m_is here a b)
 
 -- The view that the bytes say stands from their beginning to their end.
 laid_row : {s : List ℕ} {v : View} → Encodes s v → Laid view_row ViewFine s 0 (length s) v

@@ -58,7 +58,7 @@ joins_turned = record { parts = λ n t q x y a b. (b, a); two = λ x y x' y' ne 
 pub joins_or : Joins (λ x y. Or x y)
 joins_or = record { parts = λ n t q x y a b. (a, b); two = λ x y x' y' ne e. let z : ◌≡◌ {A = ℕ} 0 1 = cc in absurd (omega arith) }
 
-module _ {n : ℕ} {t₀ t₁ t₂ t₃ : List ℕ} {at i m e top : ℕ} {F G : List ℕ → ℕ → Type 0} {made : ℕ → ℕ → Node} (j : Joins made) (c : Changed t₀ t₁ at (made i m) top) (a : Grown n t₁ t₂ i m at F) (b : Grown n t₂ t₃ m e at G) (i-is : i ≡ at + 1) (h : i < m) (h' : m < e) (h'' : e ≤ n) where
+module _ {n : ℕ} {t₀ t₁ t₂ t₃ : List ℕ} {at i m e top : ℕ} {F G : List ℕ → ℕ → Type 0} {made : ℕ → ℕ → Node} (j : Joins made) (c : Changed t₀ t₁ at (made i m) top) (a : Grown n t₁ t₂ i m at F) (b : Grown n t₂ t₃ m e at G) (i_is : i ≡ at + 1) (h : i < m) (h' : m < e) (h'' : e ≤ n) where
   two_rooted : {T : List ℕ → ℕ → Type 0} → ((t : List ℕ) → node_at t at ≡ made i m → F t i → G t m → T t at) → (t : List ℕ) → ((p : ℕ) → Within at e p → Alike t₃ t p) → Rooted n t at e top T
   two_rooted whole t same =
       let first : Rooted n t i m at F = a.rooted t (λ p w. after (b.kept p (λ v. omega arith)) (same p (omega arith))) in
@@ -66,9 +66,9 @@ module _ {n : ℕ} {t₀ t₁ t₂ t₃ : List ℕ} {at i m e top : ℕ} {F G : 
       let here : Alike t₁ t at = after (a.kept at (λ w. omega arith)) (after (b.kept at (λ w. omega arith)) (same at (omega arith))) in
       let is = here.node ∙ c.here in
       let under_first : Under n t at i = record { behind = omega arith; below = omega arith; parent = first.under } in
-      let under-second : Under n t at m = record { behind = omega arith; below = omega arith; parent = second.under } in
+      let under_second : Under n t at m = record { behind = omega arith; below = omega arith; parent = second.under } in
       rooted_node (here.up ∙ c.under) (whole t is first.tree second.tree)
-      (linked_made (made i m) is (j.parts n t at i m under_first under-second) (λ x y. j.two i m x y (λ z. omega arith)))
+      (linked_made (made i m) is (j.parts n t at i m under_first under_second) (λ x y. j.two i m x y (λ z. omega arith)))
       (λ q w. elim (dec_lt q m) [ yes l ↦ first.linked q (omega arith) | no l ↦ second.linked q (omega arith) ])
 
   pub grown_two : {T : List ℕ → ℕ → Type 0} → ((t : List ℕ) → node_at t at ≡ made i m → F t i → G t m → T t at) → Grown n t₀ t₃ at e top T
@@ -101,9 +101,9 @@ module _ {n : ℕ} {t₀ t₁ t₂ : List ℕ} {at low m e top : ℕ} {F : List 
       let body : Rooted n t low m at F = a.rooted t (λ p w. same p (omega arith)) in
       let here : Alike t₁ t at = after (a.kept at (λ w. omega arith)) (same at (omega arith)) in
       let is = here.node ∙ c.here in
-      let under-body : Under n t at low = record { behind = h; below = omega arith; parent = body.under } in
+      let under_body : Under n t at low = record { behind = h; below = omega arith; parent = body.under } in
       rooted_node (here.up ∙ c.under) (whole t is body.tree)
-      (linked_made (made low) is (j.parts n t at low under-body) (j.two low))
+      (linked_made (made low) is (j.parts n t at low under_body) (j.two low))
       (one_linked t same body)
 
   pub grown_one : {T : List ℕ → ℕ → Type 0} → ((t : List ℕ) → node_at t at ≡ made low → F t low → T t at) → Grown n t₀ t₂ at e top T

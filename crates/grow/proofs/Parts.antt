@@ -38,15 +38,15 @@ module _ {C : Type 0} {row : C → List ℕ} {fine : C → Type 0} {T : C → Li
   two_grow {made = made} b j stands {s} {at} {i} {m} {top} {t₀} {t₁} {t₂} {t₃} g a c first second = record {
     grown = λ x e l bare.
         let (p, is, both) = laid_behind b (both_long row row long) g l in
-        let (f-laid, g-laid) = laid_both one long p a both in
-        let i-is = g.behind in
-        let less : i < m = f-laid.less in
-        let less' : m < e = g-laid.less in
-        let f-grown = first.grown p.0 m f-laid (still_bare (omega arith) (omega arith) (λ q w. beside c q (λ z. omega arith)) bare) in
-        let g-grown = second.grown p.1 e g-laid (still_bare (omega arith) (omega arith) (λ q w. after (beside c q (λ z. omega arith)) (f-grown.kept q (λ v. omega arith))) bare) in
-        let m-is : m ≡ at + 1 + length (row p.0) = omega (arith, laid_length row s i m p.0 (omega (arith, f-laid.within)) f-laid.within f-laid.laid) in
-        subst (λ z. Grown (length s) t₀ t₃ at e top (T z)) (sym is) (grown_two j c f-grown g-grown i-is less less' l.within
-        (λ t here x-tree. stands t at m p.0 p.1 m-is (subst (λ k. node_at t at ≡ made k m) i-is here) (subst (T p.0 t) i-is x-tree)));
+        let (f_laid, g_laid) = laid_both one long p a both in
+        let i_is = g.behind in
+        let less : i < m = f_laid.less in
+        let less' : m < e = g_laid.less in
+        let f_grown = first.grown p.0 m f_laid (still_bare (omega arith) (omega arith) (λ q w. beside c q (λ z. omega arith)) bare) in
+        let g_grown = second.grown p.1 e g_laid (still_bare (omega arith) (omega arith) (λ q w. after (beside c q (λ z. omega arith)) (f_grown.kept q (λ v. omega arith))) bare) in
+        let m_is : m ≡ at + 1 + length (row p.0) = omega (arith, laid_length row s i m p.0 (omega (arith, f_laid.within)) f_laid.within f_laid.laid) in
+        subst (λ z. Grown (length s) t₀ t₃ at e top (T z)) (sym is) (grown_two j c f_grown g_grown i_is less less' l.within
+        (λ t here x_tree. stands t at m p.0 p.1 m_is (subst (λ k. node_at t at ≡ made k m) i_is here) (subst (T p.0 t) i_is x_tree)));
   }
 
 -- A node over one part
@@ -55,10 +55,10 @@ module _ {A C : Type 0} {row : A → List ℕ} {fine : A → Type 0} {T : A → 
   one_grows {made = made} b j stands {s} {at} {i} {top} {t₀} {t₁} {t₂} g c body = record {
     grown = λ x e l bare.
         let (y, is, part) = laid_behind b long g l in
-        let i-is = g.behind in
-        let y-grown = body.grown y e part (still_bare (omega arith) (omega arith) (λ q w. beside c q (λ z. omega arith)) bare) in
-        subst (λ z. Grown (length s) t₀ t₂ at e top (T' z)) (sym is) (grown_one j c bare y-grown (omega arith) part.less (omega arith) l.within
-        (λ t here tree. stands t at y (subst (λ k. node_at t at ≡ made k) i-is here) (subst (T y t) i-is tree)));
+        let i_is = g.behind in
+        let y_grown = body.grown y e part (still_bare (omega arith) (omega arith) (λ q w. beside c q (λ z. omega arith)) bare) in
+        subst (λ z. Grown (length s) t₀ t₂ at e top (T' z)) (sym is) (grown_one j c bare y_grown (omega arith) part.less (omega arith) l.within
+        (λ t here tree. stands t at y (subst (λ k. node_at t at ≡ made k) i_is here) (subst (T y t) i_is tree)));
   }
 
 -- hide: its form, of the form and the two texts behind it
@@ -66,23 +66,23 @@ pub hidden_grows : {s : List ℕ} {at i top : ℕ} {t₀ t₁ t₂ : List ℕ} �
 hidden_grows {s} {at} {i} {top} {t₀} {t₁} {t₂} g c form = record {
   grown = λ x e l bare.
       let (p, is, parts) = laid_behind builds_hide (both_long form_row (both_row text_row text_row) form_long) g l in
-      let (m, (ends, f-laid)) = laid_front form_row FormFine (both_row text_row text_row) (BothFine TextFine TextFine) form_long p parts in
-      let i-is = g.behind in
-      let f-grown = form.grown p.0 m f-laid (still_bare (omega arith) ends (λ q w. beside c q (λ z. omega arith)) bare) in
-      subst (λ z. Grown (length s) t₀ t₂ at e top (λ t q. Planted t Source q z)) (sym is) (grown_one wraps_same c bare f-grown (omega arith) f-laid.less ends l.within
-      (λ t here tree. planted_hidden (subst (λ k. node_at t at ≡ Same k) i-is here) (subst (λ k. Grows t k p.0) i-is tree)));
+      let (m, (ends, f_laid)) = laid_front form_row FormFine (both_row text_row text_row) (BothFine TextFine TextFine) form_long p parts in
+      let i_is = g.behind in
+      let f_grown = form.grown p.0 m f_laid (still_bare (omega arith) ends (λ q w. beside c q (λ z. omega arith)) bare) in
+      subst (λ z. Grown (length s) t₀ t₂ at e top (λ t q. Planted t Source q z)) (sym is) (grown_one wraps_same c bare f_grown (omega arith) f_laid.less ends l.within
+      (λ t here tree. planted_hidden (subst (λ k. node_at t at ≡ Same k) i_is here) (subst (λ k. Grows t k p.0) i_is tree)));
 }
 
 -- or the first of the two texts
 pub shown_grows : {s : List ℕ} {at m top : ℕ} {t₀ t₁ t₂ : List ℕ} → Stands form_row FormFine s (at + 1) m → Changed t₀ t₁ at (Same m) top → TextGrows s m at t₁ t₂ → ShownGrows s at top t₀ t₂
 shown_grows {s} {at} {m} {top} {t₀} {t₁} {t₂} a c text = record {
   grown = λ p e l bare.
-      let (f-laid, texts) = laid_both splits_form (both_long text_row text_row text_long) p a l in
-      let (m', (ends, v-laid)) = laid_front text_row TextFine text_row TextFine text_long p.1 texts in
-      let less : at + 1 < m = f-laid.less in
-      let v-grown = text.grown p.1.0 m' v-laid (still_bare (omega arith) ends (λ q w. beside c q (λ z. omega arith)) bare) in
-      let m-is = laid_length form_row s (at + 1) m p.0 (omega (arith, f-laid.within)) f-laid.within f-laid.laid in
-      grown_one wraps_same c bare v-grown (omega arith) v-laid.less ends l.within (λ t here tree. planted_shown m m-is here tree);
+      let (f_laid, texts) = laid_both splits_form (both_long text_row text_row text_long) p a l in
+      let (m', (ends, v_laid)) = laid_front text_row TextFine text_row TextFine text_long p.1 texts in
+      let less : at + 1 < m = f_laid.less in
+      let v_grown = text.grown p.1.0 m' v_laid (still_bare (omega arith) ends (λ q w. beside c q (λ z. omega arith)) bare) in
+      let m_is = laid_length form_row s (at + 1) m p.0 (omega (arith, f_laid.within)) f_laid.within f_laid.laid in
+      grown_one wraps_same c bare v_grown (omega arith) v_laid.less ends l.within (λ t here tree. planted_shown m m_is here tree);
 }
 
 pub look_grows : {s : List ℕ} {at i top : ℕ} {t t' : List ℕ} → Tagged s at 11 i → ShownGrows s at top t t' → ViewGrows Look s at top t t'

@@ -29,9 +29,9 @@ each_form Look l = refl
 pub planted_grows : (t : List ℕ) (side : Side) (at : ℕ) (v : View) → Planted t side at v → Grows t at (side_form side v)
 planted_grows t side at (copy f) (planted_copy here a) = subst (Grows t at) (copy_form side f) (grows_same (at + 1) here a)
 planted_grows t Source at (hide f v d) (planted_hidden here a) = grows_same (at + 1) here a
-planted_grows t Look at (hide f v d) (planted_shown m m-is here a) = grows_same m here a
-planted_grows t side at (then k l) (planted_then m m-is here a b) = subst (Grows t at) (then_form side k l) (grows_seq (at + 1) m here (planted_grows t side (at + 1) k a) (planted_grows t side m l b))
-planted_grows t Source at (swap k l) (planted_swap m m-is here a b) = grows_seq (at + 1) m here (planted_grows t Source (at + 1) k a) (planted_grows t Source m l b)
-planted_grows t Look at (swap k l) (planted_turned m m-is here a b) = grows_seq m (at + 1) here (planted_grows t Look m l b) (planted_grows t Look (at + 1) k a)
-planted_grows t side at (either k l) (planted_either m m-is here a b) = subst (Grows t at) (either_form side k l) (grows_or (at + 1) m here (planted_grows t side (at + 1) k a) (planted_grows t side m l b))
+planted_grows t Look at (hide f v d) (planted_shown m m_is here a) = grows_same m here a
+planted_grows t side at (then k l) (planted_then m m_is here a b) = subst (Grows t at) (then_form side k l) (grows_seq (at + 1) m here (planted_grows t side (at + 1) k a) (planted_grows t side m l b))
+planted_grows t Source at (swap k l) (planted_swap m m_is here a b) = grows_seq (at + 1) m here (planted_grows t Source (at + 1) k a) (planted_grows t Source m l b)
+planted_grows t Look at (swap k l) (planted_turned m m_is here a b) = grows_seq m (at + 1) here (planted_grows t Look m l b) (planted_grows t Look (at + 1) k a)
+planted_grows t side at (either k l) (planted_either m m_is here a b) = subst (Grows t at) (either_form side k l) (grows_or (at + 1) m here (planted_grows t side (at + 1) k a) (planted_grows t side m l b))
 planted_grows t side at (each l) (planted_each here a) = subst (Grows t at) (each_form side l) (grows_many (at + 1) here (planted_grows t side (at + 1) l a))

@@ -91,7 +91,7 @@ text_grows {s} {at} {x} {top} {above} {t₀} {t₁} {t₂} a chain c = record {
   grown = λ v e l bare.
       let ends : x ≡ e = laid_ends splits_text a l in
       let less : at < x = a.less in
-      let e-is : e ≡ at + suc (length v) = laid_length text_row s at e v (omega (arith, l.less, l.within)) l.within l.laid in
+      let e_is : e ≡ at + suc (length v) = laid_length text_row s at e v (omega (arith, l.less, l.within)) l.within l.laid in
       let behind : drop (at + 1) s ≡ v ++ drop e s = sym (drop-drop 1 at s) ∙ ap (λ z. drop 1 z) l.laid in
       subst (λ z. Grown (length s) t₀ t₂ at z top (λ t q. Grows t q (exactly v))) ends
       (record {

@@ -34,16 +34,16 @@ run {a} {b} (x ∷ u) h =
 pub letter_hidden : LetterHidden
 letter_hidden = record {
   clear = (tt, is_one (lit≤ tt) (lit≤ tt), cut_end (run_cut (ones_apart (inl (omega arith)))), cut_empty);
-  shown = s_then (codes "12") (codes "a") (codes "12") [] (s_copy is-12) (s_hide is_a);
-  made = m_then (codes "1") [] (codes "1") (codes "x") (m_copy is-1) m_hide;
-  put_back = p_then (codes "1") [] (codes "12") (codes "a") (codes "1") (codes "a") (p_copy is-1 is-12) (p_hide is_a);
+  shown = s_then (codes "12") (codes "a") (codes "12") [] (s_copy is_12) (s_hide is_a);
+  made = m_then (codes "1") [] (codes "1") (codes "x") (m_copy is_1) m_hide;
+  put_back = p_then (codes "1") [] (codes "12") (codes "a") (codes "1") (codes "a") (p_copy is_1 is_12) (p_hide is_a);
 }
   where
-    is-12 : Matches digits (codes "12")
-    is-12 = run (codes "12") tt
+    is_12 : Matches digits (codes "12")
+    is_12 = run (codes "12") tt
 
-    is-1 : Matches digits (codes "1")
-    is-1 = run (codes "1") tt
+    is_1 : Matches digits (codes "1")
+    is_1 = run (codes "1") tt
 
     is_a : Matches (one 97 122) (codes "a")
     is_a = is_one (lit≤ tt) (lit≤ tt)
@@ -59,13 +59,13 @@ is_lender : {a : Text} → Matches letters a → Matches (seq letters mark) (a +
 is_lender {a} i = is_seq a semicolon i is_mark
 
 line_clear : Clear line
-line_clear = (tt, (tt, (is_lender is_none, tt, lender-cut, empty_cut), one_cut, one_cut), digits-cut, digits-cut)
+line_clear = (tt, (tt, (is_lender is_none, tt, lender_cut, empty_cut), one_cut, one_cut), digits_cut, digits_cut)
   where
-    lender-cut : CutOnce (seq letters mark) remark
-    lender-cut = seq_cut (run_cut (ones_apart (inr (omega arith)))) one_cut
+    lender_cut : CutOnce (seq letters mark) remark
+    lender_cut = seq_cut (run_cut (ones_apart (inr (omega arith)))) one_cut
 
-    digits-cut : {f : Form} → CutOnce digits (seq mark f)
-    digits-cut = run_cut (ones_apart (inl (omega arith)))
+    digits_cut : {f : Form} → CutOnce digits (seq mark f)
+    digits_cut = run_cut (ones_apart (inl (omega arith)))
 
 line_shown : {n a r : Text} → Matches digits n → Matches letters a → Matches remark r → Shows line (entry n a r) (page n r)
 line_shown {n} {a} {r} i j k =

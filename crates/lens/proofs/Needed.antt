@@ -61,7 +61,7 @@ source_order = (
   swapped,
   (tt, tt, cut, cut),
   λ works.
-      let e = works.makes_one (codes "ba") (codes "ab") (codes "ba") makes-ab makes-ba in
+      let e = works.makes_one (codes "ba") (codes "ab") (codes "ba") makes_ab makes_ba in
       let z : ◌≡◌ {A = ℕ} 97 98 = cc in
       omega arith,
 )
@@ -69,11 +69,11 @@ source_order = (
     cut : CutOnce (many a) (seq b (many a))
     cut = run_cut (ones_apart (inl (omega arith)))
 
-    makes-ab : Makes swapped (codes "ba") (codes "ab")
-    makes-ab = m_swap (codes "a") (codes "b") (codes "a") (codes "b") (m_copy is_run) (m_copy (is_seq (codes "b") [] is_b is_none))
+    makes_ab : Makes swapped (codes "ba") (codes "ab")
+    makes_ab = m_swap (codes "a") (codes "b") (codes "a") (codes "b") (m_copy is_run) (m_copy (is_seq (codes "b") [] is_b is_none))
 
-    makes-ba : Makes swapped (codes "ba") (codes "ba")
-    makes-ba = m_swap [] (codes "ba") [] (codes "ba") (m_copy is_none) (m_copy (is_seq (codes "b") (codes "a") is_b is_run))
+    makes_ba : Makes swapped (codes "ba") (codes "ba")
+    makes_ba = m_swap [] (codes "ba") [] (codes "ba") (m_copy is_none) (m_copy (is_seq (codes "b") (codes "a") is_b is_run))
 
 -- Each a hidden: nothing put back into a gives nothing, and gives a.
 abbrev all_hidden : View
@@ -83,11 +83,11 @@ source_parts : TooWeak SourceParts
 source_parts = (
   all_hidden,
   (is_a, one_parts, one_parts),
-  λ works. cons_not_nil (works.puts_one [] (codes "a") (codes "a") [] gives-a (p_none is_run)),
+  λ works. cons_not_nil (works.puts_one [] (codes "a") (codes "a") [] gives_a (p_none is_run)),
 )
   where
-    gives-a : Puts all_hidden [] (codes "a") (codes "a")
-    gives-a = p_both [] [] (codes "a") [] (codes "a") [] (p_hide is_a) (p_none is_none)
+    gives_a : Puts all_hidden [] (codes "a") (codes "a")
+    gives_a = p_both [] [] (codes "a") [] (codes "a") [] (p_hide is_a) (p_none is_none)
 
 pub needed : Needed
 needed = record {

@@ -15,7 +15,7 @@ use Rattle.reach.specs.Closed.{Closed}
 use Rattle.reach.specs.Reach.{Reach}
 use Rattle.std.proofs.lemmas.Bool.Decides.{Decides-at}
 
-module _ (n : ℕ) (before after : ℕ → Shape ℕ) (inner-before : Inner n before) (inner-after : Inner n after) where
+module _ (n : ℕ) (before after : ℕ → Shape ℕ) (inner_before : Inner n before) (inner_after : Inner n after) where
   -- Two runs from i cross at m and come to e: stopped at m, they do as `before` says, and then as `after` says.
   abbrev Cross : ℕ → ℕ → ℕ → Type 0
   Cross i m e = (q : ℕ) × Leaf (before q) × Reached before (i, i) (m, q) × Reached after (m, q) (e, e)
@@ -26,7 +26,7 @@ module _ (n : ℕ) (before after : ℕ → Shape ℕ) (inner-before : Inner n be
   crossed_decides {seen' = seen'} {entered} {entered'} i m e li lm le only closed enters last = (sound, complete)
     where
       reached : (q : ℕ) → q < n → Decides (bit seen' (coded n (m, q))) (Reached before (i, i) (m, q))
-      reached q l = closed_decides n before inner-before (i, i) (m, q) (li, li) (lm, l) only closed
+      reached q l = closed_decides n before inner_before (i, i) (m, q) (li, li) (lm, l) only closed
 
       sound : bit entered' (coded n (e, e)) ≡ true → Cross i m e
       sound marked =
@@ -37,17 +37,17 @@ module _ (n : ℕ) (before after : ℕ → Shape ℕ) (inner-before : Inner n be
             x.state,
             x.leaf,
             (reached x.state x.below).0 known,
-            coded_sound n after inner-after (m, x.state) (e, e) (lm, x.below) (le, le) path,
+            coded_sound n after inner_after (m, x.state) (e, e) (lm, x.below) (le, le) path,
           )
 
       complete : Cross i m e → bit entered' (coded n (e, e)) ≡ true
       complete (q, leaf, first, second) =
-          let l = (reached_below n before inner-before (li, li) first).1 in
+          let l = (reached_below n before inner_before (li, li) first).1 in
           last.complete (coded n (e, e)) (digits_lt le le) (record {
             start = coded n (m, q);
             less = digits_lt lm l;
             marked = enters.complete q l leaf ((reached q l).1 first);
-            path = coded_complete n after inner-after (lm, l) second;
+            path = coded_complete n after inner_after (lm, l) second;
           })
 
 -- The answer of `crosses`, which looks at the node k after a search from the node `start` alone, and one from the
@@ -57,8 +57,8 @@ pub crosses_decided : (n : ℕ) (table : List ℕ) (i m e start k : ℕ) {seen s
     Closed (Edge n (stopped table m)) (n * n) seen seen' v → Enters n (stopped table m) m seen' n entered →
     Closed (Edge n (stopped table e)) (n * n) entered entered' w → answer ≡ bit entered' k →
     Decides answer (Crosses (λ s. eqb s m) (λ s. eqb s e) (shape_at table) i m e)
-crosses_decided n table i m e start k answer bounded li lm le at-start at-k only closed enters last is =
+crosses_decided n table i m e start k answer bounded li lm le at_start at_k only closed enters last is =
     let inner : (stop : ℕ) → Inner n (stopped table stop) = λ stop. stays_inner n table stop (bounded_stays bounded) in
-    let only' : Only _ (coded n (i, i)) = rw at-start at only in
-    Decides-at answer _ (rw at-k at is)
+    let only' : Only _ (coded n (i, i)) = rw at_start at only in
+    Decides-at answer _ (rw at_k at is)
     (crossed_decides n (stopped table m) (stopped table e) (inner m) (inner e) i m e li lm le only' closed enters last)

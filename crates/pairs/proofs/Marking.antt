@@ -52,8 +52,8 @@ module _ (n : ℕ) (shape : ℕ → Shape ℕ) (m : ℕ) (seen : List ℕ) where
   pub enters_turn : (i k : ℕ) {old new : List ℕ} (reached reads : Bool) (does : Shape ℕ) → k ≡ coded n (m, i) → reached ≡ bit seen k →
       does ≡ shape i → Decides reads (Leaf does) → Enters n shape m seen i old → Puts old k (reached && reads) new →
       Enters n shape m seen (i + 1) new
-  enters_turn i k {old} {new} reached reads does at-k is-marked is d e p =
-      let marked : reached ≡ bit seen (coded n (m, i)) = rw at-k at is-marked in
-      let p' : Puts old (coded n (m, i)) (bit seen (coded n (m, i)) && reads) new = rw (at-k, marked) at p in
+  enters_turn i k {old} {new} reached reads does at_k is_marked is d e p =
+      let marked : reached ≡ bit seen (coded n (m, i)) = rw at_k at is_marked in
+      let p' : Puts old (coded n (m, i)) (bit seen (coded n (m, i)) && reads) new = rw (at_k, marked) at p in
       let d' : Decides reads (Leaf (shape i)) = rw is at d in
       enters_more i reads d' e p'

@@ -49,7 +49,7 @@ pub meets_decided : (n : ℕ) (table : List ℕ) (p q e start k : ℕ) {seen see
     Bounded n table → p < n → q < n → e < n → start ≡ coded n (p, q) → k ≡ coded n (e, e) → Only seen start →
     Closed (Edge n (stopped table e)) (n * n) seen seen' v → answer ≡ bit seen' k →
     Decides answer (Meets (λ s. eqb s e) (shape_at table) p q e)
-meets_decided n table p q e start k answer bounded lp lq le at-start at-k only closed is =
+meets_decided n table p q e start k answer bounded lp lq le at_start at_k only closed is =
     let inner = stays_inner n table e (bounded_stays bounded) in
-    let only' : Only _ (coded n (p, q)) = rw at-start at only in
-    Decides-at answer _ (rw at-k at is) (closed_decides n (stopped table e) inner (p, q) (e, e) (lp, lq) (le, le) only' closed)
+    let only' : Only _ (coded n (p, q)) = rw at_start at only in
+    Decides-at answer _ (rw at_k at is) (closed_decides n (stopped table e) inner (p, q) (e, e) (lp, lq) (le, le) only' closed)

@@ -52,27 +52,27 @@ module _ {row : List ℕ} {source look : CutText} (pair : Pair source look) {pla
 
     pub go_left : Takes look first second new.at true → Takes source first second old.at true →
         WalksBoth row source look first old new × (place < first)
-    go_left new-left old-left =
+    go_left new_left old_left =
         let two = either_two found tag w.both.in_source in
-        let both : WalkBoth row source look first old new two.one = record { in_source = source_left pair two tag.behind w.both old-left; in_look = look_left pair two tag.behind w.both new-left } in
+        let both : WalkBoth row source look first old new two.one = record { in_source = source_left pair two tag.behind w.both old_left; in_look = look_left pair two tag.behind w.both new_left } in
         (record { view = two.one; both = both }, (two_behind two tag.behind).0)
 
     pub go_right : Takes look first second new.at false → Takes source first second old.at false →
         WalksBoth row source look second old new × (place < second)
-    go_right new-right old-right =
+    go_right new_right old_right =
         let two = either_two found tag w.both.in_source in
-        let both : WalkBoth row source look second old new two.other = record { in_source = source_right pair two tag.behind w.both old-right; in_look = look_right pair two tag.behind w.both new-right } in
+        let both : WalkBoth row source look second old new two.other = record { in_source = source_right pair two tag.behind w.both old_right; in_look = look_right pair two tag.behind w.both new_right } in
         (record { view = two.other; both = both }, (two_behind two tag.behind).1)
 
     pub go_to_left : Takes look first second new.at true → CutWalks row look first new.at new.end
-    go_to_left new-left =
+    go_to_left new_left =
         let two = either_two found tag w.both.in_source in
-        record { view = two.one; walk = look_left pair two tag.behind w.both new-left }
+        record { view = two.one; walk = look_left pair two tag.behind w.both new_left }
 
     pub go_to_right : Takes look first second new.at false → CutWalks row look second new.at new.end
-    go_to_right new-right =
+    go_to_right new_right =
         let two = either_two found tag w.both.in_source in
-        record { view = two.other; walk = look_right pair two tag.behind w.both new-right }
+        record { view = two.other; walk = look_right pair two tag.behind w.both new_right }
 
 -- Any number of parts
 module _ {row : List ℕ} {source look : CutText} (pair : Pair source look) {place : ℕ} where

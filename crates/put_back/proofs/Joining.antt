@@ -94,35 +94,35 @@ module _ {row : List ℕ} {source look : CutText} (pair : Pair source look) wher
     pub left_puts : Takes look first second new.at true → Takes source first second old.at true →
         ((k : View) → WalkBoth row source look first old new k → PartPuts source look k old new P) →
         WalkBoth row source look place old new v → PartPuts source look v old new P
-    left_puts new-left old-left one w =
+    left_puts new_left old_left one w =
         let two = either_two found tag w.in_source in
-        let x = one two.one (record { in_source = source_left pair two tag.behind w old-left; in_look = look_left pair two tag.behind w new-left }) in
+        let x = one two.one (record { in_source = source_left pair two tag.behind w old_left; in_look = look_left pair two tag.behind w new_left }) in
         puts_view two.is (record { out = x.out; holds = p_left x.holds; took = x.took })
 
     pub right_puts : Takes look first second new.at false → Takes source first second old.at false →
         ((l : View) → WalkBoth row source look second old new l → PartPuts source look l old new P) →
         WalkBoth row source look place old new v → PartPuts source look v old new P
-    right_puts new-right old-right other w =
+    right_puts new_right old_right other w =
         let two = either_two found tag w.in_source in
-        let y = other two.other (record { in_source = source_right pair two tag.behind w old-right; in_look = look_right pair two tag.behind w new-right }) in
+        let y = other two.other (record { in_source = source_right pair two tag.behind w old_right; in_look = look_right pair two tag.behind w new_right }) in
         puts_view two.is (record { out = y.out; holds = p_right y.holds; took = y.took })
 
     pub to_left_puts : Takes look first second new.at true → Takes source first second old.at false →
         ((k : View) → WalkIn row look first new k → GivesSome (Turns look.side k (in_span look new)) P) →
         WalkBoth row source look place old new v → PartPuts source look v old new P
-    to_left_puts new-left old-right one w =
+    to_left_puts new_left old_right one w =
         let two = either_two found tag w.in_source in
-        let x = one two.one (look_left pair two tag.behind w new-left) in
-        let s = (source_piece pair (source_right pair two tag.behind w old-right)).2 in
+        let x = one two.one (look_left pair two tag.behind w new_left) in
+        let s = (source_piece pair (source_right pair two tag.behind w old_right)).2 in
         puts_view two.is (record { out = x.out; holds = p_to_left s (makes pair x.holds); took = x.took })
 
     pub to_right_puts : Takes look first second new.at false → Takes source first second old.at true →
         ((l : View) → WalkIn row look second new l → GivesSome (Turns look.side l (in_span look new)) P) →
         WalkBoth row source look place old new v → PartPuts source look v old new P
-    to_right_puts new-right old-left other w =
+    to_right_puts new_right old_left other w =
         let two = either_two found tag w.in_source in
-        let y = other two.other (look_right pair two tag.behind w new-right) in
-        let s = (source_piece pair (source_left pair two tag.behind w old-left)).2 in
+        let y = other two.other (look_right pair two tag.behind w new_right) in
+        let s = (source_piece pair (source_left pair two tag.behind w old_left)).2 in
         puts_view two.is (record { out = y.out; holds = p_to_right s (makes pair y.holds); took = y.took })
 
   -- Any number of parts

@@ -35,7 +35,7 @@ module _ {tree : Tree} {rows next bits : List ℕ} {text : Text} {slots p : ℕ}
   -- What the step at the place i asks for
   pub known_behind : Known tree.size rows bits (i * tree.size + tree.size) state
   known_behind = record {
-    same = λ l q q-in. ap (λ r. bit bits (r + q)) (sym (row_end i tree.size) ∙ ap (λ p. p * tree.size) (sym place)) ∙ f.known l q q-in;
+    same = λ l q q_in. ap (λ r. bit bits (r + q)) (sym (row_end i tree.size) ∙ ap (λ p. p * tree.size) (sym place)) ∙ f.known l q q_in;
   }
 
   pub not_last : state.slot < state.used → eqb (i + 1) (length text) ≡ false

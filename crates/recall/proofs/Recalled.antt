@@ -103,7 +103,7 @@ remembers_none free recalls = record { recalls = recalls; free = free; known = r
 -- The row of a slot was copied to the spot.
 pub remembers_known : {tree : Tree} {rows next old bits : List ℕ} {spot : Spot} {slots used to : ℕ} → used ≤ slots → Recalls tree rows next used →
     Copies tree.size rows to old bits spot.row tree.size → Remembers tree rows next bits spot slots (record { used = used; slot = to })
-remembers_known free recalls copies = record { recalls = recalls; free = free; known = record { same = λ l q q-in. copies.here q q-in } }
+remembers_known free recalls copies = record { recalls = recalls; free = free; known = record { same = λ l q q_in. copies.here q q_in } }
 
 module _ {tree : Tree} (ready : Ready tree) {rows rows' next mid next' bits : List ℕ} {spot : Spot} {slots slot after : ℕ} {state : State} where
   pub remember_all : Recalls tree rows next state.used → MadeStep tree rows bits spot state → Keeps tree.size bits spot.row rows rows' state.used tree.size →
@@ -112,24 +112,24 @@ module _ {tree : Tree} (ready : Ready tree) {rows rows' next mid next' bits : Li
   remember_all recalls made keeps finds takes notes = record {
     recalls = record { steps = steps };
     free = takes.within;
-    known = record { same = λ l q q-in. sym (kept_row q q-in) };
+    known = record { same = λ l q q_in. sym (kept_row q q_in) };
   }
     where
       -- The rows of used slots are as they were, and the found slot has the row of the spot.
       old_rows : (k : ℕ) → k < state.used → (q : ℕ) → q < tree.size → slot_bit tree.size rows' k q ≡ slot_bit tree.size rows k q
-      old_rows k l q q-in = let before = row_within k state.used (width tree.size) l in keeps.before (32 * (k * width tree.size) + q) (omega arith)
+      old_rows k l q q_in = let before = row_within k state.used (width tree.size) l in keeps.before (32 * (k * width tree.size) + q) (omega arith)
 
       kept_row : (q : ℕ) → q < tree.size → slot_bit tree.size rows' slot q ≡ bit bits (spot.row + q)
-      kept_row q q-in = finds.same.same q q-in ∙ keeps.here q q-in
+      kept_row q q_in = finds.same.same q q_in ∙ keeps.here q q_in
 
       leads : {k b to : ℕ} → k < state.used → to < state.used → Leads tree rows k b to → Leads tree rows' k b to
       leads {k} {b} {to} from there l = record {
-        tells = λ c t starts. starts_like ready (old_rows to there) (l.tells c t (starts_like ready (λ q q-in. sym (old_rows k from q q-in)) starts));
+        tells = λ c t starts. starts_like ready (old_rows to there) (l.tells c t (starts_like ready (λ q q_in. sym (old_rows k from q q_in)) starts));
       }
 
       new_step : state.slot < state.used → Leads tree rows' state.slot spot.byte slot
       new_step used = record {
-        tells = λ c t starts. starts_like ready kept_row (made.leads used c t (starts_like ready (λ q q-in. sym (old_rows state.slot used q q-in)) starts));
+        tells = λ c t starts. starts_like ready kept_row (made.leads used c t (starts_like ready (λ q q_in. sym (old_rows state.slot used q q_in)) starts));
       }
 
       kept_step : (k b to : ℕ) → k < after → b < 256 → get_or mid (256 * k + b) 0 ≡ to + 1 → (to < after) × Leads tree rows' k b to

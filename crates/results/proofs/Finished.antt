@@ -55,7 +55,7 @@ leaves_unwanted t answers all why none = unwanted _ t _ _ _ _ _ _ why all answer
 of_shown : (s a o o' : List ℕ) (made : Made) → ShownSays s a o o' made → Says s (λ v u. Shows v a u) (λ v. Matches (sources v) a) (λ v. Unit {0}) (length o) o' made
 of_shown s a o o' (Done n) (v, u, encodes, clear, shows, written) = (v, u, encodes, clear, shows, written.front)
 of_shown s a o o' Muddy (v, encodes, unclear, same) = (v, encodes, unclear)
-of_shown s a o o' NoSuch (no-view, same) = no-view
+of_shown s a o o' NoSuch (no_view, same) = no_view
 of_shown s a o o' NoSource (v, encodes, clear, unfit, same) = (v, encodes, clear, unfit)
 of_shown s a o o' NoLook says = absurd says
 of_shown s a o o' Full (v, u, encodes, clear, shows, long, same) = (v, u, encodes, clear, shows, long)
@@ -69,7 +69,7 @@ answers_shown post = record { says = of_shown _ _ _ _ _ post.says }
 of_made : (s b o o' : List ℕ) (made : Made) → MadeSays s b o o' made → Says s (λ v x. Makes v b x) (λ v. Unit {0}) (λ v. Matches (looks v) b) (length o) o' made
 of_made s b o o' (Done n) (v, x, encodes, clear, makes, written) = (v, x, encodes, clear, makes, written.front)
 of_made s b o o' Muddy (v, encodes, unclear, same) = (v, encodes, unclear)
-of_made s b o o' NoSuch (no-view, same) = no-view
+of_made s b o o' NoSuch (no_view, same) = no_view
 of_made s b o o' NoSource says = absurd says
 of_made s b o o' NoLook (v, encodes, clear, unfit, same) = (v, encodes, clear, unfit)
 of_made s b o o' Full (v, x, encodes, clear, makes, long, same) = (v, x, encodes, clear, makes, long)
@@ -83,7 +83,7 @@ answers_made post = record { says = of_made _ _ _ _ _ post.says }
 of_put : (s a b o o' : List ℕ) (made : Made) → PutSays s a b o o' made → Says s (λ v x. Puts v b a x) (λ v. Matches (sources v) a) (λ v. Matches (looks v) b) (length o) o' made
 of_put s a b o o' (Done n) (v, x, encodes, clear, puts, written) = (v, x, encodes, clear, puts, written.front)
 of_put s a b o o' Muddy (v, encodes, unclear, same) = (v, encodes, unclear)
-of_put s a b o o' NoSuch (no-view, same) = no-view
+of_put s a b o o' NoSuch (no_view, same) = no_view
 of_put s a b o o' NoSource (v, encodes, clear, unfit, same) = (v, encodes, clear, unfit)
 of_put s a b o o' NoLook (v, encodes, clear, fit, unfit, same) = (v, encodes, clear, unfit)
 of_put s a b o o' Full (v, x, encodes, clear, puts, long, same) = (v, x, encodes, clear, puts, long)

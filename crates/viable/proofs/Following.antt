@@ -41,7 +41,7 @@ module _ (t : List ℕ) (n : ℕ) (stays : Stays n t) (some : 0 < n) (text : Tex
 
     pub reads_breaks : (b : Break) → b.at ≡ at → b.ends ≡ bit set e → Expects t n set 256 b.next.words →
         (length text ≤ at → bit set e ≡ false) → ReadsText t e text (Breaks b)
-    reads_breaks b is_at is-ends expects unended = record { says = says }
+    reads_breaks b is_at is_ends expects unended = record { says = says }
       where
         says : (f : Form) → Reader t e f → BreaksAt f text b
         says f r = record {
@@ -50,9 +50,9 @@ module _ (t : List ℕ) (n : ℕ) (stays : Stays n t) (some : 0 < n) (text : Tex
           viable = rw is_at (after_viable t n stays follows.after r);
           longest = rw is_at (longest r);
           next = λ x below. rw is_at (next x below);
-          ends = rw (is_at, is-ends) decides;
+          ends = rw (is_at, is_ends) decides;
           goes_on = elim (viable_cases r.ranged (after_viable t n stays follows.after r)) [
-            | inl m ↦ inl (is-ends ∙ decides.1 m)
+            | inl m ↦ inl (is_ends ∙ decides.1 m)
             | inr (x, below, v) ↦ inr (x, below, (next x below).1 v)
           ];
         }

@@ -66,9 +66,9 @@ module _ (t : List ℕ) (set : List ℕ) (x : ℕ) where
 
       -- a state below k + 1 is below k, or k
       cases : (P : Type 0) (q : ℕ) → GoesOn t (k + 1) set x q → (GoesOn t k set x q → P) → (Reads (shape_at t k) x q → P) → P
-      cases P q g old-one new-one = elim (cases_eq g.from k) [
-        | inl e ↦ new-one (subst (λ p. Reads (shape_at t p) x q) e g.reads)
-        | inr ne ↦ old-one (record { from = g.from; below = omega (arith, g.below); marked = g.marked; reads = g.reads })
+      cases P q g old_one new_one = elim (cases_eq g.from k) [
+        | inl e ↦ new_one (subst (λ p. Reads (shape_at t p) x q) e g.reads)
+        | inr ne ↦ old_one (record { from = g.from; below = omega (arith, g.below); marked = g.marked; reads = g.reads })
       ]
 
       sound : (q : ℕ) → bit new q ≡ true → GoesOn t (k + 1) set x q

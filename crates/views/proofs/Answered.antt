@@ -30,13 +30,13 @@ pub judged_few : {s : List ℕ} {w : ℕ} → w < floor s → JudgedPost s w Few
 judged_few h = record { says = tt; few = (λ l. refl, λ e. h); theorems = theorems }
 
 pub judged_no_view : {s : List ℕ} {w : ℕ} → floor s ≤ w → IsView s false → JudgedPost s w NoView
-judged_no_view h no-view = enough h (λ e. subst IsFew (sym e) tt) no-view.says
+judged_no_view h no_view = enough h (λ e. subst IsFew (sym e) tt) no_view.says
 
 pub judged_plain : {s : List ℕ} {w : ℕ} {r : Verdict} → floor s ≤ w → IsView s true → Tells s r → r.clear ≡ true → JudgedPost s w Plain
 judged_plain h is tells e = let (v, encodes) = is.says in enough h (λ e. subst IsFew (sym e) tt) (v, encodes, (tells.tells v encodes).0 e)
 
 pub judged_unclear : {s : List ℕ} {w : ℕ} {r : Verdict} → floor s ≤ w → IsView s true → Tells s r → r.clear ≡ false → JudgedPost s w Unclear
-judged_unclear h is tells e = let (v, encodes) = is.says in enough h (λ e. subst IsFew (sym e) tt) (v, encodes, λ c. true-false (sym ((tells.tells v encodes).1 c) ∙ e))
+judged_unclear h is tells e = let (v, encodes) = is.says in enough h (λ e. subst IsFew (sym e) tt) (v, encodes, λ c. true_false (sym ((tells.tells v encodes).1 c) ∙ e))
   where
-    true-false : true ≡ false → ⊥
-    true-false e = let z : ◌≡◌ {A = ℕ} 0 1 = cc in omega arith
+    true_false : true ≡ false → ⊥
+    true_false e = let z : ◌≡◌ {A = ℕ} 0 1 = cc in omega arith

@@ -70,4 +70,4 @@ pub fit_post : {side : Side} {s t : List ℕ} {u : Text} {w : ℕ} (r : Reading)
     ReadsText t (length s) u r → FitPost side s u w (answer r)
 fit_post r enough is lays read =
     let (v, e) = is.says in
-    record { says = says r v e lays read; small = (λ less. absurd (omega arith), λ is-small. absurd (large r is-small)) }
+    record { says = says r v e lays read; small = (λ less. absurd (omega arith), λ is_small. absurd (large r is_small)) }

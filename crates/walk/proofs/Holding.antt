@@ -27,17 +27,17 @@ pub record Held (tree : Tree) (text : Text) (starts marks : List ℕ) (f : Form)
 -- What stands behind an empty part: the text fits the stack, and one of the two forms has the empty text.
 behind_empty : {f g : Form} {σ : Stack} {t : Text} → Fits (or f g ∷ σ) t → (Begins f σ t → ⊥) → (Begins g σ t → ⊥) →
     Matches (or f g) [] × Fits σ t
-behind_empty fit no-f no-g = elim (fits_cons_complete fit) [
-  | inl begin ↦ absurd (elim (begins_or_complete begin) [ inl c ↦ no-f c | inr c ↦ no-g c ])
+behind_empty fit no_f no_g = elim (fits_cons_complete fit) [
+  | inl begin ↦ absurd (elim (begins_or_complete begin) [ inl c ↦ no_f c | inr c ↦ no_g c ])
   | inr rest ↦ rest
 ]
 
 -- The left side doesn't begin, so if the right one doesn't either, that has the empty text.
 right_fits : {f g : Form} {σ : Stack} {t : Text} → Fits (or f g ∷ σ) t → (Begins f σ t → ⊥) →
     Begins g σ t ⊎ (Matches f [] → ⊥) → Fits (g ∷ σ) t
-right_fits fit no-f (inl begin) = fits_cons_sound (inl begin)
-right_fits fit no-f (inr not_null) = elim (fits_cons_complete fit) [
-  | inl begin ↦ elim (begins_or_complete begin) [ inl c ↦ absurd (no-f c) | inr c ↦ fits_cons_sound (inl c) ]
+right_fits fit no_f (inl begin) = fits_cons_sound (inl begin)
+right_fits fit no_f (inr not_null) = elim (fits_cons_complete fit) [
+  | inl begin ↦ elim (begins_or_complete begin) [ inl c ↦ absurd (no_f c) | inr c ↦ fits_cons_sound (inl c) ]
   | inr rest ↦ elim (or_empty_complete rest.0) [ inl m ↦ absurd (not_null m) | inr m ↦ fits_cons_sound (inr (m, rest.1)) ]
 ]
 
@@ -86,11 +86,11 @@ module _ {tree : Tree} {text : Text} {starts : List ℕ} (ready : Ready tree) (t
     -- The empty text is of the left side, and none begins: both parts are empty.
     empty_left : {marks : List ℕ} {i e : ℕ} (h : Held tree text starts marks (or f g) q i e) → S i x ≡ false → Matches f [] →
         (Begins g h.holds.stack (drop i text) → ⊥) → Held tree text starts marks f x i e
-    empty_left {marks} {i} {e} h s m no-g =
+    empty_left {marks} {i} {e} h s m no_g =
         let at = at_left q x y is a b h.holds.stands in
-        let fit = (behind_empty h.holds.fits (begins_false ready tabled i at s) no-g).1 in
+        let fit = (behind_empty h.holds.fits (begins_false ready tabled i at s) no_g).1 in
         let right = right_part ready tabled (here h) (sym is) h.part s in
-        let none = not_begun i (at_right q x y is a b h.holds.stands) no-g in
+        let none = not_begun i (at_right q x y is a b h.holds.stands) no_g in
         record {
           holds = record { stack = _; stands = at; fits = fits_cons_sound (inr (m, fit)); within = h.holds.within };
           part = subst (λ e. Part tree text starts marks x i e) (part_empty right none) (cut_none s);
@@ -111,10 +111,10 @@ module _ {tree : Tree} {text : Text} {starts : List ℕ} (ready : Ready tree) (t
     hold_right {i = i} chosen h =
         let at = at_left q x y is a b h.holds.stands in
         let at' = at_right q x y is a b h.holds.stands in
-        let (no-f, why) = chosen.right refl f g _ at at' in
+        let (no_f, why) = chosen.right refl f g _ at at' in
         record {
-          holds = record { stack = _; stands = at'; fits = right_fits h.holds.fits no-f why; within = h.holds.within };
-          part = right_part ready tabled (here h) (sym is) h.part (not_begun i at no-f);
+          holds = record { stack = _; stands = at'; fits = right_fits h.holds.fits no_f why; within = h.holds.within };
+          part = right_part ready tabled (here h) (sym is) h.part (not_begun i at no_f);
         }
 
   -- Any number of parts

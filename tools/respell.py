@@ -79,7 +79,7 @@ LOCAL = re.compile(r"--[^\n]*|(?<![\w'.\-])(?P<name>[a-z][\w']*(?:-[\w']+)+)(?![
 
 def own(text):
     """The text of a file with what it binds for itself, in a `let`, a pattern or a `where`, in snake case."""
-    away = {name.strip().split(" as ")[-1] for found in re.findall(r"^use [^{\n]*\{([^}]*)\}", text, re.M) for name in found.split(",")}
+    away = set(re.findall(r"[\w'\-]+", " ".join(re.findall(r"^use [^{\n]*\{([^}]*)\}", text, re.M))))
     away |= set(re.findall(r"\bgoal\.([\w'\-]+)", text))
     return LOCAL.sub(lambda m: m[0] if m["name"] is None or m["name"] in away else snake(m[0]), text)
 

@@ -88,7 +88,7 @@ impl Parser<'_> {
         Ok(depth - 1)
     }
 
-    #[cycle(each_item_nested_view_series_swap_view)]
+    #[cycle(views)]
     fn view(&mut self, depth: usize) -> Result<(), Fault>
         ensures { OnOk result (Reads self.old self.new) }
     {
@@ -103,7 +103,7 @@ impl Parser<'_> {
         Ok(())
     }
 
-    #[cycle(each_item_nested_view_series_swap_view)]
+    #[cycle(views)]
     fn series(&mut self, depth: usize) -> Result<(), Fault>
         ensures { OnOk result (Reads self.old self.new) }
     {
@@ -117,7 +117,7 @@ impl Parser<'_> {
         Ok(())
     }
 
-    #[cycle(each_item_nested_view_series_swap_view)]
+    #[cycle(views)]
     fn item(&mut self, depth: usize) -> Result<(), Fault>
         ensures { OnOk result (Reads self.old self.new) }
     {
@@ -156,7 +156,7 @@ impl Parser<'_> {
         self.short_text()
     }
 
-    #[cycle(each_item_nested_view_series_swap_view)]
+    #[cycle(views)]
     fn swap(&mut self, depth: usize) -> Result<(), Fault>
         ensures { OnOk result (Reads self.old self.new) }
     {
@@ -167,7 +167,7 @@ impl Parser<'_> {
         self.item(depth)
     }
 
-    #[cycle(each_item_nested_view_series_swap_view)]
+    #[cycle(views)]
     fn each(&mut self, depth: usize) -> Result<(), Fault>
         ensures { OnOk result (Reads self.old self.new) }
     {
@@ -184,7 +184,7 @@ impl Parser<'_> {
         self.literal()
     }
 
-    #[cycle(each_item_nested_view_series_swap_view)]
+    #[cycle(views)]
     fn nested_view(&mut self, depth: usize) -> Result<(), Fault>
         ensures { OnOk result (Reads self.old self.new) }
     {
@@ -210,7 +210,7 @@ impl Parser<'_> {
         self.advance()
     }
 
-    #[cycle(atom_branch_form_nested_form_repeat)]
+    #[cycle(forms)]
     fn form(&mut self, depth: usize) -> Result<(), Fault>
         ensures { OnOk result (Reads self.old self.new) }
     {
@@ -225,7 +225,7 @@ impl Parser<'_> {
         Ok(())
     }
 
-    #[cycle(atom_branch_form_nested_form_repeat)]
+    #[cycle(forms)]
     fn branch(&mut self, depth: usize) -> Result<(), Fault>
         ensures { OnOk result (Reads self.old self.new) }
     {
@@ -239,7 +239,7 @@ impl Parser<'_> {
         Ok(())
     }
 
-    #[cycle(atom_branch_form_nested_form_repeat)]
+    #[cycle(forms)]
     fn repeat(&mut self, depth: usize) -> Result<(), Fault>
         ensures { OnOk result (Reads self.old self.new) }
     {
@@ -267,7 +267,7 @@ impl Parser<'_> {
         Ok(true)
     }
 
-    #[cycle(atom_branch_form_nested_form_repeat)]
+    #[cycle(forms)]
     fn atom(&mut self, depth: usize) -> Result<(), Fault>
         ensures { OnOk result (Reads self.old self.new) }
     {
@@ -328,7 +328,7 @@ impl Parser<'_> {
         self.advance()
     }
 
-    #[cycle(atom_branch_form_nested_form_repeat)]
+    #[cycle(forms)]
     fn nested_form(&mut self, depth: usize) -> Result<(), Fault>
         ensures { OnOk result (Reads self.old self.new) }
     {

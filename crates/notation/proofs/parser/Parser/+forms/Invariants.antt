@@ -1,7 +1,7 @@
 -- Each function has a weight among those of one depth, so that a call at the same depth goes down.
 use Rattle.std.proofs.Common.{◌+◌, ◌*◌, ◌≤◌}
 use Rattle.notation.specs.Progress.{left, Goes}
-use Rattle.notation.proofs.parser.Parser.+atom_branch_form_nested_form_repeat.Given as goal
+use Rattle.notation.proofs.parser.Parser.+forms.Given as goal
 
 abbrev pub decreases-form : goal.decreases-form
 decreases-form l = 5 * l.depth + 4

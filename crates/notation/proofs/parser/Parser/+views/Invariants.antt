@@ -1,7 +1,7 @@
 -- Each function has a weight among those of one depth, so that a call at the same depth goes down.
 use Rattle.std.proofs.Common.{◌+◌, ◌*◌, ◌≤◌}
 use Rattle.notation.specs.Progress.{left, Goes}
-use Rattle.notation.proofs.parser.Parser.+each_item_nested_view_series_swap_view.Given as goal
+use Rattle.notation.proofs.parser.Parser.+views.Given as goal
 
 abbrev pub decreases-view : goal.decreases-view
 decreases-view l = 4 * l.depth + 3

@@ -12,7 +12,7 @@ enum Program {
     Put,
 }
 
-const CASES: [(Program, &str); 55] = [
+const CASES: [(Program, &str); 56] = [
     (Program::Judge, ""),
     (Program::Judge, "--version"),
     (Program::Judge, "--help"),
@@ -30,6 +30,7 @@ const CASES: [(Program, &str); 55] = [
     (Program::Judge, "missing.view"),
     (Program::Judge, "."),
     (Program::Judge, "/dev/zero"),
+    (Program::Judge, "--row /dev/zero"),
     (Program::Show, ""),
     (Program::Show, "--version"),
     (Program::Show, "--help"),

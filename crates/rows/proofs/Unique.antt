@@ -4,7 +4,7 @@ use Rattle.lens.specs.Forms.{Text, Form, empty, one, seq, or, many}
 use Rattle.lens.specs.Views.{View, copy, hide, then, swap, either, each}
 use Rattle.rows.specs.Rows.{form_row, view_row, text_row, OneView}
 use Rattle.rows.specs.declared.parts.Kind.{Kind}
-use Rattle.rows.specs.declared.parts.Kind.TheVariants.{Form as of-form, View as of-view, Text as of-text}
+use Rattle.rows.specs.declared.parts.Kind.TheVariants.{Form as of_form, View as of_view, Text as of_text}
 use Rattle.rows.specs.Stands.{both_row}
 use Rattle.rows.specs.Parts.{Part, part_row}
 use Rattle.rows.proofs.Builds.{Splits, splits_both, splits_tagged}
@@ -41,9 +41,9 @@ splits_view (either k l) = splits_tagged Tags.builds_either (k, l) (splits_both 
 splits_view (each l) = splits_tagged Tags.builds_each l (splits_view l)
 
 pub splits_part : (k : Kind) (x : Part k) → Splits (part_row k) x
-splits_part of-form = splits_form
-splits_part of-view = splits_view
-splits_part of-text = splits_text
+splits_part of_form = splits_form
+splits_part of_view = splits_view
+splits_part of_text = splits_text
 
 pub one_view : OneView
 one_view s k l a b = ((splits_view k).only l [] [] (append-nil _ ∙ a.row ∙ sym b.row ∙ sym (append-nil _))).0

@@ -1,4 +1,5 @@
--- The same of a text that is kept with its cut: that its cut is sound, where its parts end, and where a walk over it stands.
+-- The same as in Walks, of a text that is kept together with its cut: that the cut is sound, where its parts end, and where a walk
+-- over it stands.
 use Rattle.std.specs.Prelude.{◌≡◌, ℕ, ◌+◌, ◌*◌, ◌^◌, ◌≤◌, Bool, cond, List, length, ◌==◌}
 use Rattle.lens.specs.Views.{View}
 use Rattle.rows.specs.Rows.{view_row, ViewFine}

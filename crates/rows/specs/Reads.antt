@@ -19,3 +19,7 @@ pub record PartEnd (k : Kind) (s : List ℕ) (at : ℕ) (r : Option ℕ) : Type 
 -- `Row::new`: the bytes as a row, if they are few enough.
 abbrev pub Taken : List ℕ → Option Row → Type 0
 Taken s r = MatchOption r (1024 < length s) (λ row. row.bytes.now ≡ s)
+
+-- `Row::of_view`: the bytes as a row, if they say a view.
+abbrev pub Read : List ℕ → Option Row → Type 0
+Read s r = MatchOption r ((v : View) → Encodes s v → ⊥) (λ row. (row.bytes.now ≡ s) × ((v : View) × Encodes s v))

@@ -17,13 +17,7 @@ pub use row::{MAX_ROW, Row};
 pub fn is_view(bytes: &[u8]) -> bool
     ensures { IsView bytes.now result }
 {
-    let Some(row) = Row::new(bytes) else {
-        return false;
-    };
-    match row.part_end(0, Kind::View) {
-        Some(end) => end == bytes.len(),
-        None => false,
-    }
+    Row::of_view(bytes).is_some()
 }
 
 // Where the part that begins at `at` ends, or none: no such part begins there, or the bytes are too many for a row.

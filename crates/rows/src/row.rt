@@ -15,7 +15,7 @@ pub struct Row<'a> {
 }
 
 impl<'a> Row<'a> {
-    ghost use Rattle.rows.specs.Reads.{Taken};
+    ghost use Rattle.rows.specs.Reads.{Taken, Read};
 
     // The bytes as a row, or none if they are too many.
     pub fn new(bytes: &'a [u8]) -> Option<Row<'a>>
@@ -27,10 +27,19 @@ impl<'a> Row<'a> {
         Some(Row { bytes })
     }
 
+    // The bytes as a row, or none if they say no view.
+    pub fn of_view(bytes: &'a [u8]) -> Option<Row<'a>>
+        ensures { Read bytes.now result }
+    {
+        let row = Row::new(bytes)?;
+        let end = row.part_end(0, Kind::View)?;
+        if end == bytes.len() { Some(row) } else { None }
+    }
+
     // Where the part at `at` ends, or none: no such part begins there. The bound on the row bounds the recursion.
     pub fn part_end(&self, at: usize, kind: Kind) -> Option<usize>
         ensures { PartEnds kind self.now.bytes.now at result }
     {
-        part_end(&self.bytes, at, kind)
+        part_end(self.bytes, at, kind)
     }
 }

@@ -2,7 +2,7 @@
 ghost use Rattle.std.specs.Prelude.{◌≡◌, ◌*◌, ◌≤◌, length};
 ghost use Rattle.bits.specs.Bits.{bit};
 ghost use Rattle.trees.specs.Nodes.{node_at, Linked};
-ghost use Rattle.trees.specs.Rows.{Nulls};
+ghost use Rattle.trees.specs.Ready.{Nulls};
 ghost use Rattle.trees.specs.Rules.{null_rule};
 
 use crate::nodes::{Node, node_at};

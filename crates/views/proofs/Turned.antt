@@ -1,5 +1,5 @@
 -- The answers of `show` and `make`: what was counted and written is what the text turns into, and there is one such text.
-use Rattle.std.proofs.Common.{◌≡◌, ℕ, ◌-◌, ◌^◌, ◌<◌, ◌≤◌, List, length, sym, refl, subst, inl, inr, zero-add, arith}
+use Rattle.std.proofs.Common.{◌≡◌, ℕ, ◌-◌, ◌^◌, ◌<◌, ◌≤◌, List, Ok, Err, length, sym, refl, subst, inl, inr, zero-add, arith}
 use Rattle.std.proofs.lemmas.Bool.{cases_lt}
 use Rattle.std.proofs.lemmas.List.{take_all}
 use Rattle.lens.specs.Forms.{Text, Matches}
@@ -15,20 +15,9 @@ use Rattle.walk.specs.Writes.{Wrote}
 use Rattle.walk.proofs.Delivering.{delivered}
 use Rattle.walk.proofs.Descending.{walk_piece}
 use Rattle.walk.proofs.Lent.{lent_walk, gives_some}
-use Rattle.views.specs.declared.made.Made.{Made}
-use Rattle.views.specs.declared.made.Made.TheVariants.{Done, Muddy, NoSuch, NoSource, NoLook, Full, Small}
+use Rattle.views.specs.declared.made.Refused.TheVariants.{Muddy, NoSuch, NoSource, NoLook, Full, Small}
 use Rattle.views.specs.Cut.{ClearRow, CutBy}
-use Rattle.views.specs.Made.{ShownSays, MadeSays, TurnedSays, ShownPost, MadePost, TurnedPost, ClearedPost}
-
--- The other answers are not small.
-abbrev pub IsSmall : Made → Type 0
-IsSmall (Done n) = ⊥
-IsSmall Muddy = ⊥
-IsSmall NoSuch = ⊥
-IsSmall NoSource = ⊥
-IsSmall NoLook = ⊥
-IsSmall Full = ⊥
-IsSmall Small = Unit {0}
+use Rattle.views.specs.Made.{Made, ShownSays, MadeSays, TurnedSays, ShownPost, MadePost, TurnedPost, ClearedPost}
 
 module _ {side : Side} {s : List ℕ} {text : Text} (c : ClearRow s) {cut : CutText} (by : CutBy side s text cut) where
   -- A text that is cut is of the form of its side.
@@ -46,10 +35,10 @@ module _ {side : Side} {s : List ℕ} {text : Text} (c : ClearRow s) {cut : CutT
   turns {u} t = subst (λ side. Turns side c.view text u) by.side_is (subst (λ a. Turns cut.side c.view a u) by.text_is t)
 
   pub turned_full : {o : List ℕ} {b : ℕ} → length o < b → length o < 2 ^ 63 → Gives cut.side c.view cut.text.now (Counted 0 b) →
-      ClearedPost side s text o o Full
+      ClearedPost side s text o o (Err Full)
   turned_full {o} {b} more fits g = record {
     says = (c.view, g.out, c.encodes, c.clear, turns g.turns, longer, refl);
-    large = λ e. subst IsSmall (sym e) tt;
+    large = λ e. cc;
   }
     where
       longer : length o < length g.out
@@ -60,35 +49,35 @@ module _ {side : Side} {s : List ℕ} {text : Text} (c : ClearRow s) {cut : CutT
 
   -- What was counted and what was written is one text.
   pub turned_done : {o o' : List ℕ} {b n : ℕ} → b ≤ length o → length o < 2 ^ 63 → Gives cut.side c.view cut.text.now (Counted 0 b) →
-      Gives cut.side c.view cut.text.now (λ u. Wrote o 0 o' n u) → ClearedPost side s text o o' (Done b)
+      Gives cut.side c.view cut.text.now (λ u. Wrote o 0 o' n u) → ClearedPost side s text o o' (Ok b)
   turned_done room short g h =
       let d = delivered (λ u w. turns_one cut.side c.clear) room short (gives_some g) (gives_some h) in
       record {
         says = (c.view, d.text, c.encodes, c.clear, turns d.holds, record { long = d.long; front = d.front; rest = d.rest });
-        large = λ e. subst IsSmall (sym e) tt;
+        large = λ e. cc;
       }
 
 -- From what is said of a side to what the two calls promise
 two_sides : {X : Type 0} → Source ≡ Look → X
-two_sides e = let z : ◌≡◌ {A = ℕ} 0 1 = cc in absurd (omega arith)
+two_sides e = cc
 
 shown_says : (s : List ℕ) (a : Text) (o o' : List ℕ) (r : Made) → TurnedSays Source s a o o' r → ShownSays s a o o' r
-shown_says s a o o' (Done n) (v, u, e, c, t, w) = (v, u, e, c, on_shown t, w)
-shown_says s a o o' Muddy h = h
-shown_says s a o o' NoSuch h = h
-shown_says s a o o' NoSource h = h.1
-shown_says s a o o' NoLook h = two_sides h.0
-shown_says s a o o' Full (v, u, e, c, t, l, k) = (v, u, e, c, on_shown t, l, k)
-shown_says s a o o' Small h = h
+shown_says s a o o' (Ok n) (v, u, e, c, t, w) = (v, u, e, c, on_shown t, w)
+shown_says s a o o' (Err Muddy) h = h
+shown_says s a o o' (Err NoSuch) h = h
+shown_says s a o o' (Err NoSource) h = h.1
+shown_says s a o o' (Err NoLook) h = two_sides h.0
+shown_says s a o o' (Err Full) (v, u, e, c, t, l, k) = (v, u, e, c, on_shown t, l, k)
+shown_says s a o o' (Err Small) h = h
 
 made_says : (s : List ℕ) (a : Text) (o o' : List ℕ) (r : Made) → TurnedSays Look s a o o' r → MadeSays s a o o' r
-made_says s a o o' (Done n) (v, u, e, c, t, w) = (v, u, e, c, on_made t, w)
-made_says s a o o' Muddy h = h
-made_says s a o o' NoSuch h = h
-made_says s a o o' NoSource h = two_sides (sym h.0)
-made_says s a o o' NoLook h = h.1
-made_says s a o o' Full (v, u, e, c, t, l, k) = (v, u, e, c, on_made t, l, k)
-made_says s a o o' Small h = h
+made_says s a o o' (Ok n) (v, u, e, c, t, w) = (v, u, e, c, on_made t, w)
+made_says s a o o' (Err Muddy) h = h
+made_says s a o o' (Err NoSuch) h = h
+made_says s a o o' (Err NoSource) h = two_sides (sym h.0)
+made_says s a o o' (Err NoLook) h = h.1
+made_says s a o o' (Err Full) (v, u, e, c, t, l, k) = (v, u, e, c, on_made t, l, k)
+made_says s a o o' (Err Small) h = h
 
 pub shown_post : {s : List ℕ} {a : Text} {o o' : List ℕ} {w : ℕ} {r : Made} → TurnedPost Source s a o o' w r → ShownPost s a o o' w r
 shown_post {s} {a} {o} {o'} {r = r} h = record { says = shown_says s a o o' r h.says; small = h.small }

@@ -5,10 +5,10 @@ ghost use Rattle.views.specs.Room.{room_for};
 ghost use Rattle.views.specs.Cut.{ClearRow};
 ghost use Rattle.views.specs.Put.{PutPost, PutClearedPost};
 
+use crate::admitting::admit;
 use crate::cutting::cut_text;
-use crate::judging::{Judged, judge};
-use crate::made::Made;
-use crate::room::{cut_words, has_room};
+use crate::made::{Made, Refused};
+use crate::room::cut_words;
 use clear::Side;
 use put_back::PutBack;
 use walk::deliver;
@@ -20,15 +20,8 @@ pub fn put(view: &[u8], source: &[u8], look: &[u8], out: &mut [u8], work: &mut [
 {
     // No two texts in memory are together longer than a number can say.
     let texts = source.len() + look.len();
-    if !has_room(view.len(), texts, work.len()) {
-        return Made::Small;
-    }
-    match judge(view, work) {
-        Judged::Plain => put_clear(view, source, look, out, work),
-        Judged::Unclear => Made::Muddy,
-        Judged::NoView => Made::NoSuch,
-        Judged::Few => Made::Small,
-    }
+    admit(view, texts, work)?;
+    put_clear(view, source, look, out, work)
 }
 
 // The same of a view that is clear, where there are enough work words: the source and the look are cut, each in words of
@@ -43,10 +36,10 @@ fn put_clear(view: &[u8], source: &[u8], look: &[u8], out: &mut [u8], work: &mut
     let spare = (work.len() - ours - theirs) / 2;
     let (first, second) = work.split_at_mut(ours + spare);
     let Some(old) = cut_text(view, Side::Source, source, first) else {
-        return Made::NoSource;
+        return Err(Refused::NoSource);
     };
     let Some(new) = cut_text(view, Side::Look, look, second) else {
-        return Made::NoLook;
+        return Err(Refused::NoLook);
     };
     let given = PutBack {
         row: view,
@@ -54,7 +47,7 @@ fn put_clear(view: &[u8], source: &[u8], look: &[u8], out: &mut [u8], work: &mut
         look: new,
     };
     let Some(len) = deliver(&given, out) else {
-        return Made::Full;
+        return Err(Refused::Full);
     };
-    Made::Done(len)
+    Ok(len)
 }

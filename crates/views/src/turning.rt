@@ -5,10 +5,9 @@ ghost use Rattle.views.specs.Room.{room_for};
 ghost use Rattle.views.specs.Cut.{ClearRow};
 ghost use Rattle.views.specs.Made.{ShownPost, MadePost, TurnedPost, ClearedPost, missing};
 
+use crate::admitting::admit;
 use crate::cutting::cut_text;
-use crate::judging::{Judged, judge};
-use crate::made::Made;
-use crate::room::has_room;
+use crate::made::{Made, Refused};
 use clear::Side;
 use walk::{turned_len, write_turned};
 
@@ -30,15 +29,8 @@ pub fn make(view: &[u8], look: &[u8], out: &mut [u8], work: &mut [u32]) -> Made
 fn turned(view: &[u8], side: Side, text: &[u8], out: &mut [u8], work: &mut [u32]) -> Made
     ensures { TurnedPost side view.now text.now out.old out.new (length work.old) result }
 {
-    if !has_room(view.len(), text.len(), work.len()) {
-        return Made::Small;
-    }
-    match judge(view, work) {
-        Judged::Plain => turn_clear(view, side, text, out, work),
-        Judged::Unclear => Made::Muddy,
-        Judged::NoView => Made::NoSuch,
-        Judged::Few => Made::Small,
-    }
+    admit(view, text.len(), work)?;
+    turn_clear(view, side, text, out, work)
 }
 
 // The same of a view that is clear, where there are enough work words.
@@ -48,24 +40,24 @@ fn turn_clear(view: &[u8], side: Side, text: &[u8], out: &mut [u8], work: &mut [
     ensures { ClearedPost side view.now text.now out.old out.new result }
 {
     let Some(cut) = cut_text(view, side, text, work) else {
-        return no_text(side);
+        return Err(no_text(side));
     };
     let len = turned_len(view, cut.side, &cut.tree, cut.text, cut.starts, cut.marks);
     if len > out.len() {
-        return Made::Full;
+        return Err(Refused::Full);
     }
     let _ = write_turned(
         view, cut.side, &cut.tree, cut.text, cut.starts, cut.marks, out,
     );
-    Made::Done(len)
+    Ok(len)
 }
 
-// The answer for a text that isn't of the form of its side.
-fn no_text(side: Side) -> Made
+// The refusal of a text that isn't of the form of its side.
+fn no_text(side: Side) -> Refused
     ensures { result ≡ missing side }
 {
     match side {
-        Side::Source => Made::NoSource,
-        Side::Look => Made::NoLook,
+        Side::Source => Refused::NoSource,
+        Side::Look => Refused::NoLook,
     }
 }

@@ -1,6 +1,9 @@
-use Rattle.std.proofs.Common.{refl, rules}
-use Rattle.views.proofs.Answered.{theorems}
+use Rattle.std.proofs.lemmas.Result.{err_from_is_err_and}
+use Rattle.views.proofs.Merged.{put_rejected, put_admitted}
 use Rattle.views.proofs.putting.put.Goals as goal
 
-pub returns-then-not-has_room : goal.returns-then-not-has_room
-returns-then-not-has_room c = record { says = refl; small = search rules; theorems = theorems }
+pub returns-in_err-admit : goal.returns-in_err-admit
+returns-in_err-admit c = let p = err_from_is_err_and c.from_residual.result c.from_residual.ensures.1 in rw (p.1, p.2) (put_rejected _ c.in_err-admit.ensures)
+
+pub returns : goal.returns
+returns c = put_admitted c.in_ok-admit.ensures.enough c.put_clear.ensures

@@ -6,7 +6,6 @@ ghost use Rattle.clear.specs.Verdict.{Lays};
 
 use crate::fill::fill_view;
 use crate::side::Side;
-use crate::verdict::erase;
 
 // Lays one side of the view that the row says: the state 0 acts as the form of that side, and goes on at the row's
 // length, which stops. The walk is the one that judges, so it wants the same room; what it finds is let go, and what the
@@ -18,6 +17,6 @@ pub fn lay(row: &[u8], side: Side, table: &mut [u32], room: &mut [u32])
     ensures lays { Lays side row.now table.new }
     ensures bounded { Bounded (length row.now + 1) table.new }
 {
-    erase(table);
+    table.fill(0);
     let _ = fill_view(row, 0, row.len(), side, table, room);
 }

@@ -1,5 +1,5 @@
 // Whether a row's view is clear: both sides of it are laid into an automaton, one after the other in the same words.
-ghost use Rattle.std.specs.Prelude.{◌≡◌, ℕ, ◌+◌, ◌*◌, ◌<◌, ◌≤◌, length, slice_index};
+ghost use Rattle.std.specs.Prelude.{◌≤◌, length};
 ghost use Rattle.clear.specs.Verdict.{clear_words, Tells, TellsSide};
 
 use crate::fill::fill_view;
@@ -32,7 +32,7 @@ fn is_clear_on(row: &[u8], side: Side, work: &mut [u32]) -> Verdict
     ensures { TellsSide side row.now result }
 {
     let (table, room) = work.split_at_mut(4 * row.len());
-    erase(table);
+    table.fill(0);
     match fill_view(row, 0, row.len(), side, table, room) {
         Some(found) => Verdict {
             clear: found.clear,
@@ -42,14 +42,5 @@ fn is_clear_on(row: &[u8], side: Side, work: &mut [u32]) -> Verdict
             clear: false,
             visited: 0,
         },
-    }
-}
-
-// A table of zeros: every state stops.
-pub(crate) fn erase(table: &mut [u32])
-    ensures { (k : ℕ) → k < length table.new → slice_index table.new k ≡ 0 }
-{
-    for word in table.iter_mut() {
-        *word = 0;
     }
 }

@@ -20,11 +20,11 @@ pub fn close<G: Graph>(g: &G, seen: &mut [u32], done: &mut [u32], hints: &mut [u
     bits::clear(done);
     let size = g.size();
     let mut visits = 0;
-    let mut node = find_any(seen, done, size, 0);
-    while node < size {
+    let mut from = 0;
+    while let Some(node) = find_any(seen, done, size, from) {
         let top = visit(g, seen, done, hints, 0, node);
         visits += 1 + drain(g, seen, done, hints, top);
-        node = find_any(seen, done, size, node);
+        from = node;
     }
     visits
 }

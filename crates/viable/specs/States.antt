@@ -20,18 +20,6 @@ pub record After (t : List ℕ) (n : ℕ) (u : Text) (set : List ℕ) : Type 0 w
   pub complete : (q : ℕ) → q < n → Runs (shape_at t) 0 u q → bit set q ≡ true
   pub some : (q : ℕ) × Runs (shape_at t) 0 u q
 
--- `member`: the first state of the set from k on, or n if there is none below n.
-pub record First (set : List ℕ) (n k r : ℕ) : Type 0 where
-  pub on : k ≤ n → k ≤ r
-  pub within : r ≤ n
-  pub marked : r < n → bit set r ≡ true
-  pub none : (j : ℕ) → k ≤ j → j < r → bit set j ≡ true → ⊥
-
--- `pass`: none of the set between k and r.
-pub record Skips (set : List ℕ) (k r : ℕ) : Type 0 where
-  pub on : k < r
-  pub none : (j : ℕ) → k < j → j < r → bit set j ≡ true → ⊥
-
 -- A state of the set, below k, reads the byte x and goes on at q.
 pub record GoesOn (t : List ℕ) (k : ℕ) (set : List ℕ) (x q : ℕ) : Type 0 where
   pub from : ℕ

@@ -1,7 +1,7 @@
 // Sets of states as bits: those that are come to with the text so far. A set is closed under moves without a byte, and a
 // byte of the text leads from one set to the next.
-ghost use Rattle.std.specs.Prelude.{◌≡◌, ◌*◌, ◌^◌, ◌<◌, ◌≤◌, [], length};
-ghost use Rattle.viable.specs.States.{After, First, Skips, MarksOn, Advanced, Follows, Expects};
+ghost use Rattle.std.specs.Prelude.{◌≡◌, ◌*◌, ◌<◌, ◌≤◌, [], length};
+ghost use Rattle.viable.specs.States.{After, MarksOn, Advanced, Follows, Expects};
 
 use crate::automaton::Automaton;
 use crate::bytes::ByteSet;
@@ -34,16 +34,14 @@ impl<'a> Automaton<'a> {
         requires begun { After self.now.table.now self.now.states [] set.old }
         ensures { Follows self.now.table.now self.now.states text.now set.new result }
     {
-        let mut at = 0;
-        while at < text.len() {
-            if !self.advance(set, text[at] as u32, next) {
+        for (at, byte) in text.iter().enumerate() {
+            if !self.advance(set, *byte as u32, next) {
                 return at;
             }
             set.copy_from_slice(next);
             let _ = reach::close(self, set, done, hints);
-            at += 1;
         }
-        at
+        text.len()
     }
 
     // The bytes that some state of the set reads. `next` is room to work in.
@@ -68,10 +66,10 @@ impl<'a> Automaton<'a> {
     {
         bits::clear(next);
         let mut some = false;
-        let mut state = member(set, self.states, 0);
-        while state < self.states {
+        let mut from = 0;
+        while let Some(state) = bits::first(set, &[], self.states, from) {
             some |= self.go_on(state, byte, next);
-            state = member(set, self.states, state + 1);
+            from = state + 1;
         }
         some
     }
@@ -93,34 +91,4 @@ impl<'a> Automaton<'a> {
             _ => false,
         }
     }
-}
-
-// The first state of the set from `from` on, or `size` if there is none below `size`. What is left of a word without a
-// state is passed as a whole.
-fn member(set: &[u32], size: usize, from: usize) -> usize
-    requires set_room { size ≤ 32 * length set.now }
-    requires few { size < 2 ^ 32 }
-    ensures { First set.now size from result }
-{
-    let mut state = from;
-    while state < size {
-        if bits::get(set, state) {
-            return state;
-        }
-        state = pass(set, state);
-    }
-    size
-}
-
-// The next state that may be in the set.
-fn pass(set: &[u32], state: usize) -> usize
-    requires inside { state < 32 * length set.now }
-    requires few { state < 2 ^ 32 }
-    ensures { Skips set.now state result }
-{
-    let word = state / 32;
-    if set[word] >> (state % 32) == 0 {
-        return 32 * word + 32;
-    }
-    state + 1
 }

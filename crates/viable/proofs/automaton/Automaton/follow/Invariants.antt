@@ -1,10 +1,7 @@
 -- The set is that of the text so far.
-use Rattle.std.proofs.Common.{◌-◌, ◌≤◌, length, take}
+use Rattle.std.proofs.Common.{take}
 use Rattle.viable.specs.States.{After}
 use Rattle.viable.proofs.automaton.Automaton.follow.Given as goal
 
 abbrev pub invariant-loop-at : goal.invariant-loop-at
-invariant-loop-at l = After l.self.table.now l.self.states (take l.at l.text) l.set × (l.at ≤ length l.text)
-
-abbrev pub decreases-loop-at : goal.decreases-loop-at
-decreases-loop-at l = length l.text - l.at
+invariant-loop-at l = After l.self.table.now l.self.states (take l.at l.text) l.set

@@ -1,6 +1,7 @@
 // The pairs of states as a graph: the pair of `first` and `second` is the node first * states + second, and its edges
 // are the moves of two runs side by side.
 ghost use Rattle.std.specs.Prelude.{◌≡◌, ℕ, ◌+◌, ◌*◌, ◌^◌, ◌<◌, ◌≤◌};
+ghost use Rattle.std.proofs.Common.{rules};
 ghost use Rattle.automata.specs.Automaton.{stop};
 ghost use Rattle.automata.specs.Coded.{coded, Edge};
 ghost use Rattle.pairs.specs.Pairs.{stopped, Stays, numbered, listed};
@@ -23,6 +24,8 @@ impl<'a> Graph for Pairs<'a> {
     ghost edge = { λ g. Edge g.states (stopped g.table.now g.«end») };
 
     ghost nodes = { λ g. g.states * g.states };
+
+    ghost few = { λ g. Prim.search rules };
 
     fn size(&self) -> usize {
         self.states * self.states

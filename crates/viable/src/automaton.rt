@@ -21,6 +21,8 @@ impl<'a> Graph for Automaton<'a> {
 
     ghost nodes = { λ g. g.states };
 
+    ghost few = { λ g. g.few };
+
     fn size(&self) -> usize {
         self.states
     }

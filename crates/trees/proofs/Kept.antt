@@ -18,7 +18,7 @@ use Rattle.trees.proofs.Within.{at_within}
 
 -- T says what is to be got back.
 module _ {T : Type 0} (t : ∥ T ∥₁) where
-  sure_less : {a b : ℕ} → (T → a < b) → a < b
+  pub sure_less : {a b : ℕ} → (T → a < b) → a < b
   sure_less {a} {b} h = elim (cases_lt a b) [ inl less ↦ less | inr none ↦ absurd (not_there t (λ x. let l = h x in omega arith)) ]
 
   sure_equal : {a b : ℕ} → (T → a ≡ b) → a ≡ b
@@ -41,7 +41,7 @@ module _ {T : Type 0} (t : ∥ T ∥₁) where
   sure_parts n q words (Same x) h = sure_under h
   sure_parts n q words (Byte b x) h = sure_under h
 
-  sure_decides : {P : Type 0} (b : Bool) → Told P → (T → Decides b P) → Decides b P
+  pub sure_decides : {P : Type 0} (b : Bool) → Told P → (T → Decides b P) → Decides b P
   sure_decides true (inl p) h = (λ e. p, λ p. refl)
   sure_decides false (inl p) h = absurd (not_there t (λ x. clash ((h x).1 p)))
   sure_decides b (inr none) h = (λ e. absurd (not_there t (λ x. none ((h x).0 e))), λ p. absurd (none p))

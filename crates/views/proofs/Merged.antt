@@ -40,8 +40,6 @@ module _ {s : List ℕ} {a b : Text} (c : ClearRow s) {source : CutText} (old : 
   module _ {look : CutText} (new : CutBy Look s b look) where
     pub put_cut : CutBoth s source look
     put_cut = record {
-      short = c.encodes.short;
-      pair = record { source_sound = old.sound; look_sound = new.sound; source_side = old.side_is; look_side = new.side_is };
       view = c.view;
       clear = c.clear;
       in_source = old.walk c.view c.encodes;
@@ -52,7 +50,7 @@ module _ {s : List ℕ} {a b : Text} (c : ClearRow s) {source : CutText} (old : 
     puts : {x : Text} → PutWhole s source look x → Puts c.view b a x
     puts {x} p =
         subst (λ b. Puts c.view b a x) new.text_is
-        (subst (λ a. Puts c.view look.text.now a x) old.text_is (p.puts c.view (old.walk c.view c.encodes)))
+        (subst (λ a. Puts c.view look.scanned.text.now a x) old.text_is (p.puts c.view (old.walk c.view c.encodes)))
 
     pub put_full : {o o' : List ℕ} → Overflows (PutWhole s source look) o o' → PutClearedPost s a b o o' (Err Full)
     put_full h = record {

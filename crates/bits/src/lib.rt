@@ -13,7 +13,7 @@ pub fn get(words: &[u32], k: usize) -> bool
 }
 
 // Word `i`; 0 past the end.
-fn word_at(words: &[u32], i: usize) -> u32
+pub fn word_at(words: &[u32], i: usize) -> u32
     ensures { result ≡ slice_index words.now i }
 {
     words.get(i).copied().unwrap_or(0)

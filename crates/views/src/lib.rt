@@ -15,5 +15,6 @@ pub use fitting::{Unfit, viable_prefix};
 pub use judging::{Judged, floor, judge};
 pub use made::{Made, Refused};
 pub use putting::put;
+pub use room::work_words;
 pub use turning::{make, show};
 pub use viable::{Break, ByteRange, ByteSet};

@@ -31,10 +31,8 @@ pub fn end_of(scanned: &Scanned<'_, '_>, marks: &[u32], place: usize, at: usize)
     if !scanned.begins_at(place, at) {
         return at;
     }
-    for last in at..scanned.text.len() {
-        if cell_at(&scanned.tree, marks, place, last) {
-            return last + 1;
-        }
-    }
-    scanned.text.len()
+    let end = scanned.text.len();
+    (at..end)
+        .find(|&last| cell_at(&scanned.tree, marks, place, last))
+        .map_or(end, |last| last + 1)
 }

@@ -1,7 +1,7 @@
 // From a row to the tree of one side of its view. Each node stands at its own place of the row; the other places have
 // no node.
 ghost use Rattle.std.specs.Prelude.{◌≡◌, ◌*◌, ◌≤◌, length};
-ghost use Rattle.grow.specs.Grown.{Bare, FormGrows, TextGrows, ShownGrows, ViewGrows, TreeOf, swapped};
+ghost use Rattle.grow.specs.Grown.{FormGrows, TextGrows, ShownGrows, ViewGrows, TreeOf, swapped};
 
 use clear::Side;
 use rows::{FormNode, Kind, Row, ViewNode, form_node, view_node};
@@ -12,18 +12,9 @@ pub fn grow(row: &Row, side: Side, tree: &mut [u32])
     requires tree_long { 4 * length row.now.bytes.now ≤ length tree.old }
     ensures { TreeOf side row.now.bytes.now tree.new }
 {
-    erase(row.bytes.len(), tree);
+    // Not every byte of a row becomes a node; a place of zeros is none.
+    tree.fill(0);
     grow_view(row, 0, 0, side, tree);
-}
-
-// Takes away the nodes of the first places: not every byte of a row becomes a node.
-fn erase(size: usize, tree: &mut [u32])
-    requires tree_long { 4 * size ≤ length tree.old }
-    ensures { Bare tree.new 0 size }
-{
-    for place in 0..size {
-        put_node(tree, place, Node::None, 0);
-    }
 }
 
 // The form at `at`, as a part of the node at `up`.

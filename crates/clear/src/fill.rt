@@ -1,28 +1,16 @@
 // Lays one side of a row into the table of an automaton, node by node, and asks each condition of that side as
 // soon as the states that it is about stand in the table. States are places of the row; the end is its length.
-ghost use Rattle.std.specs.Prelude.{◌+◌, ◌*◌, ◌<◌, ◌≤◌, length};
+ghost use Rattle.std.specs.Prelude.{◌≡◌, ◌+◌, ◌*◌, ◌<◌, ◌≤◌, length};
 ghost use Rattle.pairs.specs.Room.{pair_words};
 ghost use Rattle.pairs.specs.Table.{Bounded};
-ghost use Rattle.clear.specs.Filled.{FormFills, TextFills, ViewFills, CopyFills, HiddenFills, LiteralFills, SeriesFills, TurnedFills, ChoiceFills, PartsFills};
+ghost use Rattle.clear.specs.Filled.{Ready, FormFills, TextFills, ViewFills, CopyFills, HiddenFills, LiteralFills, SeriesFills, TurnedFills, ChoiceFills, PartsFills};
 
 use crate::side::Side;
-use pairs::{Step, crosses, meets, put_step};
+use pairs::{Answer, Automaton, Step, put_step};
 use rows::{FormNode, Kind, ViewNode, form_node, part_end, view_node};
 
-// Where a view ends, whether it is clear on the side that was laid, and how many pairs of states were visited to
-// find that.
-#[derive(Clone, Copy, Debug)]
-pub struct Finding {
-    pub end: usize,
-    pub clear: bool,
-    pub visited: usize,
-}
-
 pub(crate) fn fill_form(row: &[u8], at: usize, next: usize, table: &mut [u32]) -> Option<usize>
-    requires short { length row.now ≤ 1024 }
-    requires table_long { 4 * length row.now ≤ length table.old }
-    requires next_inside { next ≤ length row.now }
-    requires bounded { Bounded (length row.now + 1) table.old }
+    requires ready { Ready row.now next table.old }
     ensures fills { FormFills row.now at next table.old table.new result }
     ensures bounded { Bounded (length row.now + 1) table.new }
 {
@@ -56,10 +44,7 @@ pub(crate) fn fill_form(row: &[u8], at: usize, next: usize, table: &mut [u32]) -
 
 // A text's place, its length byte, stands for the whole text; each place reads the byte behind it.
 fn fill_text(row: &[u8], at: usize, next: usize, table: &mut [u32]) -> Option<usize>
-    requires short { length row.now ≤ 1024 }
-    requires table_long { 4 * length row.now ≤ length table.old }
-    requires next_inside { next ≤ length row.now }
-    requires bounded { Bounded (length row.now + 1) table.old }
+    requires ready { Ready row.now next table.old }
     ensures fills { TextFills row.now at next table.old table.new result }
     ensures bounded { Bounded (length row.now + 1) table.new }
 {
@@ -73,7 +58,7 @@ fn fill_text(row: &[u8], at: usize, next: usize, table: &mut [u32]) -> Option<us
     Some(end)
 }
 
-// Lays one side of the view at `at`.
+// Lays one side of the view at `at`, and answers where the view ends, and whether it is clear on that side.
 #[cycle(filling)]
 pub(crate) fn fill_view(
     row: &[u8],
@@ -82,11 +67,8 @@ pub(crate) fn fill_view(
     side: Side,
     table: &mut [u32],
     room: &mut [u32],
-) -> Option<Finding>
-    requires short { length row.now ≤ 1024 }
-    requires table_long { 4 * length row.now ≤ length table.old }
-    requires next_inside { next ≤ length row.now }
-    requires bounded { Bounded (length row.now + 1) table.old }
+) -> Option<(usize, Answer)>
+    requires ready { Ready row.now next table.old }
     requires enough { 3 * pair_words (length row.now + 1) ≤ length room.old }
     ensures fills { ViewFills side row.now at next table.old table.new result }
     ensures bounded { Bounded (length row.now + 1) table.new }
@@ -117,11 +99,8 @@ pub(crate) fn fill_view(
 }
 
 // copy: its form, on both sides.
-fn fill_copy(row: &[u8], at: usize, next: usize, table: &mut [u32]) -> Option<Finding>
-    requires short { length row.now ≤ 1024 }
-    requires table_long { 4 * length row.now ≤ length table.old }
-    requires next_inside { next ≤ length row.now }
-    requires bounded { Bounded (length row.now + 1) table.old }
+fn fill_copy(row: &[u8], at: usize, next: usize, table: &mut [u32]) -> Option<(usize, Answer)>
+    requires ready { Ready row.now next table.old }
     requires inside { at < length row.now }
     ensures fills { CopyFills row.now at next table.old table.new result }
     ensures bounded { Bounded (length row.now + 1) table.new }
@@ -129,11 +108,7 @@ fn fill_copy(row: &[u8], at: usize, next: usize, table: &mut [u32]) -> Option<Fi
     let form = at + 1;
     put_step(table, at, Step::To(form as u32));
     let end = fill_form(row, form, next, table)?;
-    Some(Finding {
-        end,
-        clear: true,
-        visited: 0,
-    })
+    Some((end, Answer::known(true)))
 }
 
 // hide, as its sources stand: its form; the text for a new source has to be of it.
@@ -143,11 +118,8 @@ fn fill_hidden(
     next: usize,
     table: &mut [u32],
     room: &mut [u32],
-) -> Option<Finding>
-    requires short { length row.now ≤ 1024 }
-    requires table_long { 4 * length row.now ≤ length table.old }
-    requires next_inside { next ≤ length row.now }
-    requires bounded { Bounded (length row.now + 1) table.old }
+) -> Option<(usize, Answer)>
+    requires ready { Ready row.now next table.old }
     requires enough { 3 * pair_words (length row.now + 1) ≤ length room.old }
     requires inside { at < length row.now }
     ensures fills { HiddenFills row.now at next table.old table.new result }
@@ -159,20 +131,13 @@ fn fill_hidden(
     put_step(table, at, Step::To(form as u32));
     let _ = fill_form(row, form, next, table)?;
     let end = fill_text(row, fresh, next, table)?;
-    let fits = meets(table, row.len() + 1, fresh, form, next, room);
-    Some(Finding {
-        end,
-        clear: fits.yes,
-        visited: fits.visited,
-    })
+    let fits = laid(row, table).meets(fresh, form, next, room);
+    Some((end, fits))
 }
 
 // hide, as its looks stand: the text that it shows.
-fn fill_literal(row: &[u8], at: usize, next: usize, table: &mut [u32]) -> Option<Finding>
-    requires short { length row.now ≤ 1024 }
-    requires table_long { 4 * length row.now ≤ length table.old }
-    requires next_inside { next ≤ length row.now }
-    requires bounded { Bounded (length row.now + 1) table.old }
+fn fill_literal(row: &[u8], at: usize, next: usize, table: &mut [u32]) -> Option<(usize, Answer)>
+    requires ready { Ready row.now next table.old }
     requires inside { at < length row.now }
     ensures fills { LiteralFills row.now at next table.old table.new result }
     ensures bounded { Bounded (length row.now + 1) table.new }
@@ -182,11 +147,7 @@ fn fill_literal(row: &[u8], at: usize, next: usize, table: &mut [u32]) -> Option
     let end = part_end(row, fresh, Kind::Text)?;
     put_step(table, at, Step::To(shown as u32));
     let _ = fill_text(row, shown, next, table)?;
-    Some(Finding {
-        end,
-        clear: true,
-        visited: 0,
-    })
+    Some((end, Answer::known(true)))
 }
 
 // Two views, one after the other as they stand in the row.
@@ -199,11 +160,8 @@ fn fill_series(
     side: Side,
     table: &mut [u32],
     room: &mut [u32],
-) -> Option<Finding>
-    requires short { length row.now ≤ 1024 }
-    requires table_long { 4 * length row.now ≤ length table.old }
-    requires next_inside { next ≤ length row.now }
-    requires bounded { Bounded (length row.now + 1) table.old }
+) -> Option<(usize, Answer)>
+    requires ready { Ready row.now next table.old }
     requires enough { 3 * pair_words (length row.now + 1) ≤ length room.old }
     requires inside { at < length row.now }
     requires second_after { at < second }
@@ -213,17 +171,10 @@ fn fill_series(
 {
     let first = at + 1;
     put_step(table, at, Step::To(first as u32));
-    let front = fill_view(row, first, second, side, table, room)?;
-    let back = fill_view(row, second, next, side, table, room)?;
-    let crossed = crosses(table, row.len() + 1, first, second, next, room);
-    Some(Finding {
-        end: back.end,
-        clear: front.clear & back.clear & !crossed.yes,
-        visited: front
-            .visited
-            .saturating_add(back.visited)
-            .saturating_add(crossed.visited),
-    })
+    let (_, front) = fill_view(row, first, second, side, table, room)?;
+    let (end, back) = fill_view(row, second, next, side, table, room)?;
+    let crossed = laid(row, table).crosses(first, second, next, room);
+    Some((end, front & back & !crossed))
 }
 
 // Two views of which the second one's texts come first, as the looks of swap do.
@@ -236,11 +187,8 @@ fn fill_turned(
     side: Side,
     table: &mut [u32],
     room: &mut [u32],
-) -> Option<Finding>
-    requires short { length row.now ≤ 1024 }
-    requires table_long { 4 * length row.now ≤ length table.old }
-    requires next_inside { next ≤ length row.now }
-    requires bounded { Bounded (length row.now + 1) table.old }
+) -> Option<(usize, Answer)>
+    requires ready { Ready row.now next table.old }
     requires enough { 3 * pair_words (length row.now + 1) ≤ length room.old }
     requires inside { at < length row.now }
     requires second_after { at < second }
@@ -250,17 +198,10 @@ fn fill_turned(
 {
     let first = at + 1;
     put_step(table, at, Step::To(second as u32));
-    let back = fill_view(row, first, next, side, table, room)?;
-    let front = fill_view(row, second, first, side, table, room)?;
-    let crossed = crosses(table, row.len() + 1, second, first, next, room);
-    Some(Finding {
-        end: front.end,
-        clear: back.clear & front.clear & !crossed.yes,
-        visited: back
-            .visited
-            .saturating_add(front.visited)
-            .saturating_add(crossed.visited),
-    })
+    let (_, back) = fill_view(row, first, next, side, table, room)?;
+    let (end, front) = fill_view(row, second, first, side, table, room)?;
+    let crossed = laid(row, table).crosses(second, first, next, room);
+    Some((end, back & front & !crossed))
 }
 
 // One of two views.
@@ -273,11 +214,8 @@ fn fill_choice(
     side: Side,
     table: &mut [u32],
     room: &mut [u32],
-) -> Option<Finding>
-    requires short { length row.now ≤ 1024 }
-    requires table_long { 4 * length row.now ≤ length table.old }
-    requires next_inside { next ≤ length row.now }
-    requires bounded { Bounded (length row.now + 1) table.old }
+) -> Option<(usize, Answer)>
+    requires ready { Ready row.now next table.old }
     requires enough { 3 * pair_words (length row.now + 1) ≤ length room.old }
     requires inside { at < length row.now }
     requires second_after { at < second }
@@ -287,17 +225,10 @@ fn fill_choice(
 {
     let first = at + 1;
     put_step(table, at, Step::Fork(first as u32, second as u32));
-    let left = fill_view(row, first, next, side, table, room)?;
-    let right = fill_view(row, second, next, side, table, room)?;
-    let both = meets(table, row.len() + 1, first, second, next, room);
-    Some(Finding {
-        end: right.end,
-        clear: left.clear & right.clear & !both.yes,
-        visited: left
-            .visited
-            .saturating_add(right.visited)
-            .saturating_add(both.visited),
-    })
+    let (_, left) = fill_view(row, first, next, side, table, room)?;
+    let (end, right) = fill_view(row, second, next, side, table, room)?;
+    let both = laid(row, table).meets(first, second, next, room);
+    Some((end, left & right & !both))
 }
 
 // Any number of parts of one view, none of them empty.
@@ -309,11 +240,8 @@ fn fill_parts(
     side: Side,
     table: &mut [u32],
     room: &mut [u32],
-) -> Option<Finding>
-    requires short { length row.now ≤ 1024 }
-    requires table_long { 4 * length row.now ≤ length table.old }
-    requires next_inside { next ≤ length row.now }
-    requires bounded { Bounded (length row.now + 1) table.old }
+) -> Option<(usize, Answer)>
+    requires ready { Ready row.now next table.old }
     requires enough { 3 * pair_words (length row.now + 1) ≤ length room.old }
     requires inside { at < length row.now }
     ensures fills { PartsFills side row.now at next table.old table.new result }
@@ -321,15 +249,18 @@ fn fill_parts(
 {
     let part = at + 1;
     put_step(table, at, Step::Fork(next as u32, part as u32));
-    let body = fill_view(row, part, at, side, table, room)?;
-    let empty = meets(table, row.len() + 1, part, at, at, room);
-    let crossed = crosses(table, row.len() + 1, part, at, next, room);
-    Some(Finding {
-        end: body.end,
-        clear: body.clear & (!empty.yes & !crossed.yes),
-        visited: body
-            .visited
-            .saturating_add(empty.visited)
-            .saturating_add(crossed.visited),
-    })
+    let (end, body) = fill_view(row, part, at, side, table, room)?;
+    let empty = laid(row, table).meets(part, at, at, room);
+    let crossed = laid(row, table).crosses(part, at, next, room);
+    Some((end, body & (!empty & !crossed)))
+}
+
+// The table as an automaton, with a state for each place of the row and one for its end.
+fn laid<'a>(row: &[u8], table: &'a [u32]) -> Automaton<'a>
+    requires short { length row.now ≤ 1024 }
+    requires bounded { Bounded (length row.now + 1) table.now }
+    ensures table { result.table.now ≡ table.now }
+    ensures states { result.states ≡ length row.now + 1 }
+{
+    Automaton::new(table, row.len() + 1)
 }

@@ -52,7 +52,7 @@ fn judge(
     let start = Instant::now(rt)?;
     let verdict = clear::is_clear(row, &mut work);
     let spent = start.elapsed(rt)?.as_micros();
-    let said = if verdict.clear { "plain" } else { "unclear" };
+    let said = if verdict.yes { "plain" } else { "unclear" };
     let visited = verdict.visited;
     print!(rt; "{name}, {len} bytes: {said}, {visited} pairs")?;
     if before > 0 {

@@ -9,7 +9,6 @@ use Rattle.rows.specs.Rows.{Encodes}
 use Rattle.rows.proofs.Unique.{one_view}
 use Rattle.automata.proofs.Told.{told}
 use Rattle.clear.specs.Verdict.{Tells}
-use Rattle.clear.specs.declared.verdict.Verdict.{Verdict}
 use Rattle.views.specs.declared.judging.Judged.{Judged}
 use Rattle.views.specs.declared.judging.Judged.TheVariants.{Plain, Unclear, NoView, Few}
 use Rattle.views.specs.Theorems.{Theorems}
@@ -34,11 +33,11 @@ judged_few h = record { says = tt; few = (λ l. refl, λ e. h); theorems = theor
 pub judged_no_view : {s : List ℕ} {w : ℕ} → floor s ≤ w → ((v : View) → Encodes s v → ⊥) → JudgedPost s w NoView
 judged_no_view h none = enough h (λ e. subst IsFew (sym e) tt) none
 
-module _ {s : List ℕ} {w : ℕ} {r : Verdict} (h : floor s ≤ w) (is : (v : View) × Encodes s v) (tells : Tells s r) where
-  pub judged_plain : r.clear ≡ true → JudgedPost s w Plain
+module _ {s : List ℕ} {w : ℕ} {r : _} (h : floor s ≤ w) (is : (v : View) × Encodes s v) (tells : Tells s r) where
+  pub judged_plain : r.yes ≡ true → JudgedPost s w Plain
   judged_plain e = let (v, encodes) = is in enough h (λ e. subst IsFew (sym e) tt) (v, encodes, (tells.tells v encodes).0 e)
 
-  pub judged_unclear : r.clear ≡ false → JudgedPost s w Unclear
+  pub judged_unclear : r.yes ≡ false → JudgedPost s w Unclear
   judged_unclear e =
       let (v, encodes) = is in
       enough h (λ e. subst IsFew (sym e) tt) (v, encodes, λ c. both_ways _ e ((tells.tells v encodes).1 c))

@@ -6,10 +6,12 @@ use Rattle.clear.proofs.automaton.lay.Goals as goal
 pub fill_view-requires : goal.fill_view-requires
 fill_view-requires c =
     record {
-      short = c.requires.short;
-      table_long = omega (arith, c.fill.auto.self);
-      next_inside = omega arith;
-      bounded = bounded_zeros _ _ (λ k h. search rules);
+      ready = record {
+        short = c.requires.short;
+        table_long = omega (arith, c.fill.auto.self);
+        next_inside = omega arith;
+        bounded = bounded_zeros _ _ (λ k h. search rules);
+      };
       enough = c.requires.enough;
     }
 

@@ -6,10 +6,12 @@ use Rattle.clear.proofs.verdict.is_clear_on.Goals as goal
 pub fill_view-requires : goal.fill_view-requires
 fill_view-requires c =
     record {
-      short = c.requires.short;
-      table_long = omega (arith, c.split_at_mut-table.ensures.front_len, c.fill.auto.self);
-      next_inside = omega arith;
-      bounded = bounded_zeros _ _ (λ k h. search rules);
+      ready = record {
+        short = c.requires.short;
+        table_long = omega (arith, c.split_at_mut-table.ensures.front_len, c.fill.auto.self);
+        next_inside = omega arith;
+        bounded = bounded_zeros _ _ (λ k h. search rules);
+      };
       enough = omega (arith, room_enough (length c.args.row.now) (length c.args.work.now) c.requires.short c.requires.enough, c.split_at_mut-table.ensures.back_len);
     }
 

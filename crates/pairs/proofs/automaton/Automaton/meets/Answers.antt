@@ -1,9 +1,5 @@
-use Rattle.pairs.proofs.Edges.{bounded_stays}
 use Rattle.pairs.proofs.Meeting.{node_inside, meets_decided}
-use Rattle.pairs.proofs.search.meets.Goals as goal
-
-pub invariant_of-pairs : goal.invariant_of-pairs
-invariant_of-pairs c = record { few = c.requires.few; stays = bounded_stays c.requires.bounded }
+use Rattle.pairs.proofs.automaton.Automaton.meets.Goals as goal
 
 pub mark_only-requires : goal.mark_only-requires
 mark_only-requires c = record {
@@ -14,5 +10,5 @@ mark_only-requires c = record {
 
 pub returns : goal.returns
 returns c =
-    meets_decided _ c.args.table.now _ _ _ _ _ _ c.requires.bounded c.requires.first_inside c.requires.second_inside c.requires.end_inside
+    meets_decided _ c.args.self.now.table.now _ _ _ _ _ _ c.args.self.now.stays c.requires.first_inside c.requires.second_inside c.requires.end_inside
     c.node.ensures c.node-2.ensures c.mark_only.ensures c.close-visited.ensures c.get-yes.ensures

@@ -1,13 +1,6 @@
 use Rattle.pairs.proofs.Crossing.{crosses_decided}
-use Rattle.pairs.proofs.Edges.{bounded_stays}
 use Rattle.pairs.proofs.Meeting.{node_inside}
-use Rattle.pairs.proofs.search.crosses.Goals as goal
-
-pub invariant_of-before : goal.invariant_of-before
-invariant_of-before c = record { few = c.requires.few; stays = bounded_stays c.requires.bounded }
-
-pub invariant_of-after : goal.invariant_of-after
-invariant_of-after c = record { few = c.requires.few; stays = bounded_stays c.requires.bounded }
+use Rattle.pairs.proofs.automaton.Automaton.crosses.Goals as goal
 
 pub mark_only-requires : goal.mark_only-requires
 mark_only-requires c = record {
@@ -18,6 +11,6 @@ mark_only-requires c = record {
 
 pub returns : goal.returns
 returns c =
-    crosses_decided _ c.args.table.now _ _ _ _ _ _ c.requires.bounded c.requires.first_inside c.requires.middle_inside c.requires.end_inside
+    crosses_decided _ c.args.self.now.table.now _ _ _ _ _ _ c.args.self.now.stays c.requires.first_inside c.requires.middle_inside c.requires.end_inside
     c.node.ensures c.node-2.ensures c.mark_only.ensures c.close-visited_before.ensures c.enter.ensures
     c.close-visited_after.ensures c.get-yes.ensures

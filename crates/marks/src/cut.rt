@@ -1,5 +1,6 @@
 // Cuts what stands at a place of a text into parts, in the order of the text, and marks the last place of each part that
 // is not empty. What begins where is known, so the way is never tried and given up: the part that is not empty first.
+// `marks` and its room are no field beside the scanned text: what it holds in the end is the caller's.
 ghost use Rattle.std.specs.Prelude.{◌≡◌, ◌+◌, ◌*◌, ◌≤◌, true, length};
 ghost use Rattle.trees.specs.Nodes.{node_at};
 ghost use Rattle.trees.specs.Cells.{cell, begun};

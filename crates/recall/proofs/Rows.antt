@@ -1,7 +1,7 @@
 -- Rows in slots, after copying.
 use Rattle.std.proofs.Common.{◌≡◌, ℕ, ◌+◌, ◌-◌, ◌*◌, ◌/◌, ◌%◌, ◌^◌, ◌<◌, ◌≤◌, Bool, eqb, List, length, get_or, take, drop, sym, refl, ap, ◌∙◌, subst, inl, inr, le_refl, length-take-le, arith}
 use Rattle.std.proofs.lemmas.Grind.{elements}
-use Rattle.std.proofs.lemmas.List.{get_or-take}
+use Rattle.std.proofs.lemmas.List.{get_or-take, get_or-drop}
 use Rattle.std.proofs.lemmas.Nat.{mul-le}
 use Rattle.std.proofs.lemmas.Bool.{cases_eq, cases_lt}
 use Rattle.bits.specs.Bits.{bit, Puts, PutsBits}
@@ -16,6 +16,10 @@ slot_digit n rows k w j l =
     let place : (32 * (k * width n) + (32 * w + j)) % 32 ≡ j = omega arith in
     ap (λ i. eqb (get_or rows i 0 / 2 ^ ((32 * (k * width n) + (32 * w + j)) % 32) % 2) 1) word
     ∙ ap (λ p. eqb (get_or rows (k * width n + w) 0 / 2 ^ p % 2) 1) place
+
+-- A word of a part of the rows, from f up to e.
+pub part_word : (rows : List ℕ) (f e w : ℕ) → f + w < e → get_or (take (e - f) (drop f rows)) w 0 ≡ get_or rows (f + w) 0
+part_word rows f e w l = get_or-take (e - f) (drop f rows) w 0 (omega arith) ∙ get_or-drop f rows w 0
 
 -- Kept bit by bit
 pub keeps_none : (n : ℕ) (bits : List ℕ) (row : ℕ) (rows : List ℕ) (k : ℕ) → Keeps n bits row rows rows k 0
@@ -53,12 +57,12 @@ copies_more {n} {rows} {k} {old} {mid} {new} {row} {len} {value} w short within 
 }
 
 module _ {n : ℕ} {rows : List ℕ} {k : ℕ} {old mid new : List ℕ} {row first : ℕ} (begin : first ≡ k * width n) where
-  pub copies_word : (w : ℕ) → 32 * w + 32 ≤ n → Copies n rows k old mid row (32 * w) → PutsBits mid (row + 32 * w) 32 (get_or rows (first + w) 0) new →
-      Copies n rows k old new row (32 * (w + 1))
-  copies_word w within copies puts =
+  pub copies_word : {value : ℕ} (w : ℕ) → 32 * w + 32 ≤ n → value ≡ get_or rows (first + w) 0 → Copies n rows k old mid row (32 * w) →
+      PutsBits mid (row + 32 * w) 32 value new → Copies n rows k old new row (32 * (w + 1))
+  copies_word w within is copies puts =
       let next : 32 * w + 32 ≡ 32 * (w + 1) = omega arith in
       subst (λ m. Copies n rows k old new row m) next
-      (copies_more w (omega arith) within (λ j l. ap (λ f. get_or rows (f + w) 0 / 2 ^ j % 2) begin) copies puts)
+      (copies_more w (omega arith) within (λ j l. ap (λ v. v / 2 ^ j % 2) (is ∙ ap (λ f. get_or rows (f + w) 0) begin)) copies puts)
 
   pub copies_rest : {p : ℕ} → p ≡ 2 ^ (n % 32) → Copies n rows k old mid row (32 * (n / 32)) →
       PutsBits mid (row + 32 * (n / 32)) (n % 32) (get_or rows (first + n / 32) 0 % p) new → Copies n rows k old new row n

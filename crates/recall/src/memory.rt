@@ -91,8 +91,8 @@ impl<'w, 'm> Memory<'w, 'm> {
     {
         let first = slot * slot_words(self.tree.size);
         let whole = self.tree.size / 32;
-        for word in 0..whole {
-            bits::put_bits(bits, row + 32 * word, 32, self.rows[first + word]);
+        for (word, &value) in self.rows[first..first + whole].iter().enumerate() {
+            bits::put_bits(bits, row + 32 * word, 32, value);
         }
         let rest = self.tree.size % 32;
         if rest > 0 {

@@ -22,6 +22,7 @@ pub fn backward<'w, 't>(
 {
     let mut memory = Memory::new(tree, memory);
     let mut slot = None;
+    // The loop counts, since i names the row too: with `enumerate().rev()` a proof finds i again from what was yielded.
     for i in (0..text.len()).rev() {
         let spot = Spot {
             tree,

@@ -9,7 +9,7 @@ pub(crate) fn slot_words(size: usize) -> usize
     size / 32 + 1
 }
 
-// Keeps the row of `size` bits that begins at the bit `row` in a slot.
+// Keeps the row of `size` bits that begins at the bit `row` in a slot. The loop counts bits, which are no elements of a slice.
 pub(crate) fn keep_row(size: usize, bits: &[u32], row: usize, rows: &mut [u32], slot: usize)
     requires inside { slot * width size + width size ≤ length rows.old }
     requires small { row + size + 2 ^ 32 ≤ 2 ^ 64 }

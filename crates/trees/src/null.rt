@@ -8,6 +8,7 @@ ghost use Rattle.trees.specs.Rules.{null_rule};
 use crate::nodes::{Node, node_at};
 
 // Gives each place its bit, the last place first: parts stand behind their node.
+// The loop counts, since a place is the number by which nodes name it.
 pub fn mark_null(words: &[u32], size: usize, null: &mut [u32])
     requires linked { Linked size words.now }
     requires room { size ≤ 32 * length null.old }

@@ -36,7 +36,7 @@ impl<'w, 't> Scanned<'w, 't> {
     pub fn matches(&self) -> bool
         ensures { Accepts self.now.tree self.now.text.now result }
     {
-        if self.text.len() == 0 {
+        if self.text.is_empty() {
             bits::get(self.tree.null, self.tree.root)
         } else {
             bits::get(self.starts, self.tree.root)

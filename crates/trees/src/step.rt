@@ -2,6 +2,8 @@
 // on that row and on the byte alone, never on the text.
 // First it finds, for each node, whether the text behind fits what must stand behind the node (its stack), parents before
 // parts; and then, for each node, whether a part that is not empty begins at the spot, parts before their node.
+// Both loops count, since a place is the number by which nodes name it. `bits` is no field of a spot: what it holds in the end
+// is the caller's.
 ghost use Rattle.std.specs.Prelude.{◌≡◌, ◌+◌, ◌*◌, ◌^◌, ◌≤◌, length};
 
 use crate::nodes::{Node, node_at, up_at};

@@ -1,11 +1,11 @@
 -- Sets of states as bits, and what the steps of reading a text do to them.
-use Rattle.std.specs.Prelude.{◌≡◌, ℕ, ◌<◌, ◌≤◌, Bool, true, ◌⊎◌, List, length, take, Decides, slice_index}
+use Rattle.std.specs.Prelude.{◌≡◌, ℕ, ◌<◌, ◌≤◌, Bool, true, ◌⊎◌, Result, List, length, take, Decides, slice_index}
 use Rattle.lens.specs.Forms.{Text, Form}
 use Rattle.bits.specs.Bits.{bit}
 use Rattle.automata.specs.Automaton.{stop, Runs, Acts}
 use Rattle.automata.proofs.Runs.{Reads}
 use Rattle.pairs.specs.Table.{shape_at}
-use Rattle.viable.specs.declared.reading.Reading.{Reading}
+use Rattle.viable.specs.declared.reading.Break.{Break}
 use Rattle.viable.specs.Viable.{Ranged, Says}
 
 -- The table t reads the form f: it begins at the state 0 and ends at the state e, which stops.
@@ -52,5 +52,5 @@ pub record Expects (t : List ℕ) (n : ℕ) (set : List ℕ) (m : ℕ) (bytes : 
   pub each : (x : ℕ) → x < m → Decides (bit bytes x) ((q : ℕ) × GoesOn t n set x q)
 
 -- `read`: what is said holds of every form that the table reads.
-pub record ReadsText (t : List ℕ) (e : ℕ) (text : Text) (r : Reading) : Type 0 where
+pub record ReadsText (t : List ℕ) (e : ℕ) (text : Text) (r : Result (Unit {0}) Break) : Type 0 where
   pub says : (f : Form) → Reader t e f → Says f text r

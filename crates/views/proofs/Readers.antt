@@ -10,8 +10,7 @@ use Rattle.clear.specs.Sides.{side_form}
 use Rattle.clear.specs.Verdict.{Lays}
 use Rattle.viable.specs.Viable.{Ranged}
 use Rattle.viable.specs.States.{Reader, ReadsText}
-use Rattle.viable.specs.declared.reading.Reading.{Reading}
-use Rattle.viable.specs.declared.reading.Reading.TheVariants.{Fits, Breaks as Short}
+use Rattle.viable.specs.declared.reading.Break.{Break}
 use Rattle.views.specs.declared.fitting.Unfit.{Unfit}
 use Rattle.views.specs.declared.fitting.Unfit.TheVariants.{Breaks, Small}
 use Rattle.views.specs.Room.{room}
@@ -47,20 +46,20 @@ reader : {side : Side} {s t : List ℕ} (v : View) → Encodes s v → Lays side
 reader {side} v e lays = record { acts = lays.acts v e; stops = lays.stops v e; ranged = ranged side v e.fine }
 
 -- The answers that rest on reading are not small.
-abbrev answer : Reading → Result (Unit {0}) Unfit
-answer Fits = Ok tt
-answer (Short b) = Err (Breaks b)
+abbrev answer : Result (Unit {0}) Break → Result (Unit {0}) Unfit
+answer (Ok u) = Ok u
+answer (Err b) = Err (Breaks b)
 
-says : {side : Side} {s t : List ℕ} {u : Text} (r : Reading) (v : View) → Encodes s v → Lays side s t → ReadsText t (length s) u r →
+says : {side : Side} {s t : List ℕ} {u : Text} (r : Result (Unit {0}) Break) (v : View) → Encodes s v → Lays side s t → ReadsText t (length s) u r →
     FitSays side s u (answer r)
-says {side} Fits v e lays read = (v, e, read.says (side_form side v) (reader v e lays))
-says {side} (Short b) v e lays read = (v, e, read.says (side_form side v) (reader v e lays))
+says {side} (Ok _) v e lays read = (v, e, read.says (side_form side v) (reader v e lays))
+says {side} (Err b) v e lays read = (v, e, read.says (side_form side v) (reader v e lays))
 
-large : (r : Reading) → answer r ≡ Err Small → ⊥
-large Fits e = cc
-large (Short b) e = cc
+large : (r : Result (Unit {0}) Break) → answer r ≡ Err Small → ⊥
+large (Ok _) e = cc
+large (Err b) e = cc
 
-pub fit_post : {side : Side} {s t : List ℕ} {u : Text} {w : ℕ} (r : Reading) → room s (length u) ≤ w → IsView s true → Lays side s t →
+pub fit_post : {side : Side} {s t : List ℕ} {u : Text} {w : ℕ} (r : Result (Unit {0}) Break) → room s (length u) ≤ w → IsView s true → Lays side s t →
     ReadsText t (length s) u r → FitPost side s u w (answer r)
 fit_post r enough is lays read =
     let (v, e) = is.says in

@@ -6,7 +6,7 @@ ghost use Rattle.views.specs.Fits.{FitPost};
 use crate::room::has_room;
 use clear::{Side, lay};
 use rows::is_view;
-use viable::{Break, Reading, read};
+use viable::{Break, read};
 
 // Why a text isn't said to be of a form: its longest front that some text of the form begins with ends here; the bytes say
 // no view; or there are too few work words.
@@ -37,8 +37,6 @@ pub fn viable_prefix(view: &[u8], side: Side, text: &[u8], work: &mut [u32]) -> 
     }
     let (table, room) = work.split_at_mut(4 * view.len());
     lay(view, side, table, room);
-    match read(table, view.len(), text, room) {
-        Reading::Fits => Ok(()),
-        Reading::Breaks(place) => Err(Unfit::Breaks(place)),
-    }
+    read(table, view.len(), text, room)?;
+    Ok(())
 }

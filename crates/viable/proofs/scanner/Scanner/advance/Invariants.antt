@@ -1,10 +1,10 @@
 -- The states of the set below the one that the scan goes on at have gone on.
 use Rattle.std.proofs.Common.{◌-◌, ◌≤◌}
 use Rattle.viable.specs.States.{Advanced}
-use Rattle.viable.proofs.automaton.Automaton.advance.Given as goal
+use Rattle.viable.proofs.scanner.Scanner.advance.Given as goal
 
 abbrev pub invariant-loop-state : goal.invariant-loop-state
-invariant-loop-state l = Advanced l.self.table.now l.from l.set l.byte l.next l.some × (l.from ≤ l.self.states)
+invariant-loop-state l = Advanced l.self.automaton.table.now l.from l.set l.byte l.next l.some × (l.from ≤ l.self.automaton.states)
 
 abbrev pub decreases-loop-state : goal.decreases-loop-state
-decreases-loop-state l = l.self.states - l.from
+decreases-loop-state l = l.self.automaton.states - l.from

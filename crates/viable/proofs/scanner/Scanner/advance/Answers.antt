@@ -1,6 +1,6 @@
 use Rattle.std.proofs.Common.{arith}
 use Rattle.viable.proofs.Scanning.{advanced_on, advanced_more}
-use Rattle.viable.proofs.automaton.Automaton.advance.Goals as goal
+use Rattle.viable.proofs.scanner.Scanner.advance.Goals as goal
 
 pub loop-state-preserved : goal.loop-state-preserved
 loop-state-preserved c =

@@ -1,6 +1,6 @@
 use Rattle.std.proofs.Common.{arith}
 use Rattle.viable.proofs.Scanning.{marks_read}
-use Rattle.viable.proofs.automaton.Automaton.go_on.Goals as goal
+use Rattle.viable.proofs.scanner.Scanner.go_on.Goals as goal
 
 pub returns-else-byte-high : goal.returns-else-byte-high
 returns-else-byte-high c =

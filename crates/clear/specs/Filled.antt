@@ -11,10 +11,9 @@ use Rattle.pairs.specs.declared.answer.Answer.{Answer}
 use Rattle.clear.specs.declared.side.Side.{Side}
 use Rattle.clear.specs.Sides.{side_form, ClearOn}
 
--- A table is ready for the row s: the row is short, there are four words for each of its bytes, and every state goes on
--- among the row's places and its end, as what is laid does, which goes on at `next`.
+-- A table is ready for the row s: there are four words for each of its bytes, and every state goes on among the row's places
+-- and its end, as what is laid does, which goes on at `next`.
 pub record Ready (s : List ℕ) (next : ℕ) (t : List ℕ) : Type 0 where
-  pub short : length s ≤ 1024
   pub table_long : 4 * length s ≤ length t
   pub next_inside : next ≤ length s
   pub bounded : Bounded (length s + 1) t

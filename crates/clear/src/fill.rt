@@ -7,14 +7,14 @@ ghost use Rattle.clear.specs.Filled.{Ready, FormFills, TextFills, ViewFills, Cop
 
 use crate::side::Side;
 use pairs::{Answer, Automaton, Step, put_step};
-use rows::{FormNode, Kind, ViewNode, form_node, part_end, view_node};
+use rows::{FormNode, Kind, Row, ViewNode, form_node, view_node};
 
-pub(crate) fn fill_form(row: &[u8], at: usize, next: usize, table: &mut [u32]) -> Option<usize>
-    requires ready { Ready row.now next table.old }
-    ensures fills { FormFills row.now at next table.old table.new result }
-    ensures bounded { Bounded (length row.now + 1) table.new }
+pub(crate) fn fill_form(row: &Row, at: usize, next: usize, table: &mut [u32]) -> Option<usize>
+    requires ready { Ready row.now.bytes.now next table.old }
+    ensures fills { FormFills row.now.bytes.now at next table.old table.new result }
+    ensures bounded { Bounded (length row.now.bytes.now + 1) table.new }
 {
-    match form_node(row, at)? {
+    match form_node(row.bytes, at)? {
         FormNode::Empty => {
             put_step(table, at, Step::To(next as u32));
             Some(at + 1)
@@ -24,13 +24,13 @@ pub(crate) fn fill_form(row: &[u8], at: usize, next: usize, table: &mut [u32]) -
             Some(at + 3)
         }
         FormNode::Seq(first) => {
-            let second = part_end(row, first, Kind::Form)?;
+            let second = row.part_end(first, Kind::Form)?;
             put_step(table, at, Step::To(first as u32));
             let _ = fill_form(row, first, second, table)?;
             fill_form(row, second, next, table)
         }
         FormNode::Or(first) => {
-            let second = part_end(row, first, Kind::Form)?;
+            let second = row.part_end(first, Kind::Form)?;
             put_step(table, at, Step::Fork(first as u32, second as u32));
             let _ = fill_form(row, first, next, table)?;
             fill_form(row, second, next, table)
@@ -43,15 +43,15 @@ pub(crate) fn fill_form(row: &[u8], at: usize, next: usize, table: &mut [u32]) -
 }
 
 // A text's place, its length byte, stands for the whole text; each place reads the byte behind it.
-fn fill_text(row: &[u8], at: usize, next: usize, table: &mut [u32]) -> Option<usize>
-    requires ready { Ready row.now next table.old }
-    ensures fills { TextFills row.now at next table.old table.new result }
-    ensures bounded { Bounded (length row.now + 1) table.new }
+fn fill_text(row: &Row, at: usize, next: usize, table: &mut [u32]) -> Option<usize>
+    requires ready { Ready row.now.bytes.now next table.old }
+    ensures fills { TextFills row.now.bytes.now at next table.old table.new result }
+    ensures bounded { Bounded (length row.now.bytes.now + 1) table.new }
 {
-    let end = part_end(row, at, Kind::Text)?;
+    let end = row.part_end(at, Kind::Text)?;
     let last = end - 1;
     for place in at..last {
-        let byte = row[place + 1] as u32;
+        let byte = row.bytes[place + 1] as u32;
         put_step(table, place, Step::Leaf(byte, byte, (place + 1) as u32));
     }
     put_step(table, last, Step::To(next as u32));
@@ -61,37 +61,37 @@ fn fill_text(row: &[u8], at: usize, next: usize, table: &mut [u32]) -> Option<us
 // Lays one side of the view at `at`, and answers where the view ends, and whether it is clear on that side.
 #[cycle(filling)]
 pub(crate) fn fill_view(
-    row: &[u8],
+    row: &Row,
     at: usize,
     next: usize,
     side: Side,
     table: &mut [u32],
     room: &mut [u32],
 ) -> Option<(usize, Answer)>
-    requires ready { Ready row.now next table.old }
-    requires enough { 3 * pair_words (length row.now + 1) ≤ length room.old }
-    ensures fills { ViewFills side row.now at next table.old table.new result }
-    ensures bounded { Bounded (length row.now + 1) table.new }
+    requires ready { Ready row.now.bytes.now next table.old }
+    requires enough { 3 * pair_words (length row.now.bytes.now + 1) ≤ length room.old }
+    ensures fills { ViewFills side row.now.bytes.now at next table.old table.new result }
+    ensures bounded { Bounded (length row.now.bytes.now + 1) table.new }
 {
-    match view_node(row, at)? {
+    match view_node(row.bytes, at)? {
         ViewNode::Copy(_) => fill_copy(row, at, next, table),
         ViewNode::Hide(_) => match side {
             Side::Source => fill_hidden(row, at, next, table, room),
             Side::Look => fill_literal(row, at, next, table),
         },
         ViewNode::Then(first) => {
-            let second = part_end(row, first, Kind::View)?;
+            let second = row.part_end(first, Kind::View)?;
             fill_series(row, at, second, next, side, table, room)
         }
         ViewNode::Swap(first) => {
-            let second = part_end(row, first, Kind::View)?;
+            let second = row.part_end(first, Kind::View)?;
             match side {
                 Side::Source => fill_series(row, at, second, next, side, table, room),
                 Side::Look => fill_turned(row, at, second, next, side, table, room),
             }
         }
         ViewNode::Either(first) => {
-            let second = part_end(row, first, Kind::View)?;
+            let second = row.part_end(first, Kind::View)?;
             fill_choice(row, at, second, next, side, table, room)
         }
         ViewNode::Each(_) => fill_parts(row, at, next, side, table, room),
@@ -99,11 +99,11 @@ pub(crate) fn fill_view(
 }
 
 // copy: its form, on both sides.
-fn fill_copy(row: &[u8], at: usize, next: usize, table: &mut [u32]) -> Option<(usize, Answer)>
-    requires ready { Ready row.now next table.old }
-    requires inside { at < length row.now }
-    ensures fills { CopyFills row.now at next table.old table.new result }
-    ensures bounded { Bounded (length row.now + 1) table.new }
+fn fill_copy(row: &Row, at: usize, next: usize, table: &mut [u32]) -> Option<(usize, Answer)>
+    requires ready { Ready row.now.bytes.now next table.old }
+    requires inside { at < length row.now.bytes.now }
+    ensures fills { CopyFills row.now.bytes.now at next table.old table.new result }
+    ensures bounded { Bounded (length row.now.bytes.now + 1) table.new }
 {
     let form = at + 1;
     put_step(table, at, Step::To(form as u32));
@@ -113,21 +113,21 @@ fn fill_copy(row: &[u8], at: usize, next: usize, table: &mut [u32]) -> Option<(u
 
 // hide, as its sources stand: its form; the text for a new source has to be of it.
 fn fill_hidden(
-    row: &[u8],
+    row: &Row,
     at: usize,
     next: usize,
     table: &mut [u32],
     room: &mut [u32],
 ) -> Option<(usize, Answer)>
-    requires ready { Ready row.now next table.old }
-    requires enough { 3 * pair_words (length row.now + 1) ≤ length room.old }
-    requires inside { at < length row.now }
-    ensures fills { HiddenFills row.now at next table.old table.new result }
-    ensures bounded { Bounded (length row.now + 1) table.new }
+    requires ready { Ready row.now.bytes.now next table.old }
+    requires enough { 3 * pair_words (length row.now.bytes.now + 1) ≤ length room.old }
+    requires inside { at < length row.now.bytes.now }
+    ensures fills { HiddenFills row.now.bytes.now at next table.old table.new result }
+    ensures bounded { Bounded (length row.now.bytes.now + 1) table.new }
 {
     let form = at + 1;
-    let shown = part_end(row, form, Kind::Form)?;
-    let fresh = part_end(row, shown, Kind::Text)?;
+    let shown = row.part_end(form, Kind::Form)?;
+    let fresh = row.part_end(shown, Kind::Text)?;
     put_step(table, at, Step::To(form as u32));
     let _ = fill_form(row, form, next, table)?;
     let end = fill_text(row, fresh, next, table)?;
@@ -136,15 +136,15 @@ fn fill_hidden(
 }
 
 // hide, as its looks stand: the text that it shows.
-fn fill_literal(row: &[u8], at: usize, next: usize, table: &mut [u32]) -> Option<(usize, Answer)>
-    requires ready { Ready row.now next table.old }
-    requires inside { at < length row.now }
-    ensures fills { LiteralFills row.now at next table.old table.new result }
-    ensures bounded { Bounded (length row.now + 1) table.new }
+fn fill_literal(row: &Row, at: usize, next: usize, table: &mut [u32]) -> Option<(usize, Answer)>
+    requires ready { Ready row.now.bytes.now next table.old }
+    requires inside { at < length row.now.bytes.now }
+    ensures fills { LiteralFills row.now.bytes.now at next table.old table.new result }
+    ensures bounded { Bounded (length row.now.bytes.now + 1) table.new }
 {
-    let shown = part_end(row, at + 1, Kind::Form)?;
-    let fresh = part_end(row, shown, Kind::Text)?;
-    let end = part_end(row, fresh, Kind::Text)?;
+    let shown = row.part_end(at + 1, Kind::Form)?;
+    let fresh = row.part_end(shown, Kind::Text)?;
+    let end = row.part_end(fresh, Kind::Text)?;
     put_step(table, at, Step::To(shown as u32));
     let _ = fill_text(row, shown, next, table)?;
     Some((end, Answer::known(true)))
@@ -153,7 +153,7 @@ fn fill_literal(row: &[u8], at: usize, next: usize, table: &mut [u32]) -> Option
 // Two views, one after the other as they stand in the row.
 #[cycle(filling)]
 fn fill_series(
-    row: &[u8],
+    row: &Row,
     at: usize,
     second: usize,
     next: usize,
@@ -161,13 +161,13 @@ fn fill_series(
     table: &mut [u32],
     room: &mut [u32],
 ) -> Option<(usize, Answer)>
-    requires ready { Ready row.now next table.old }
-    requires enough { 3 * pair_words (length row.now + 1) ≤ length room.old }
-    requires inside { at < length row.now }
+    requires ready { Ready row.now.bytes.now next table.old }
+    requires enough { 3 * pair_words (length row.now.bytes.now + 1) ≤ length room.old }
+    requires inside { at < length row.now.bytes.now }
     requires second_after { at < second }
-    requires second_inside { second ≤ length row.now }
-    ensures fills { SeriesFills side row.now at second next table.old table.new result }
-    ensures bounded { Bounded (length row.now + 1) table.new }
+    requires second_inside { second ≤ length row.now.bytes.now }
+    ensures fills { SeriesFills side row.now.bytes.now at second next table.old table.new result }
+    ensures bounded { Bounded (length row.now.bytes.now + 1) table.new }
 {
     let first = at + 1;
     put_step(table, at, Step::To(first as u32));
@@ -180,7 +180,7 @@ fn fill_series(
 // Two views of which the second one's texts come first, as the looks of swap do.
 #[cycle(filling)]
 fn fill_turned(
-    row: &[u8],
+    row: &Row,
     at: usize,
     second: usize,
     next: usize,
@@ -188,13 +188,13 @@ fn fill_turned(
     table: &mut [u32],
     room: &mut [u32],
 ) -> Option<(usize, Answer)>
-    requires ready { Ready row.now next table.old }
-    requires enough { 3 * pair_words (length row.now + 1) ≤ length room.old }
-    requires inside { at < length row.now }
+    requires ready { Ready row.now.bytes.now next table.old }
+    requires enough { 3 * pair_words (length row.now.bytes.now + 1) ≤ length room.old }
+    requires inside { at < length row.now.bytes.now }
     requires second_after { at < second }
-    requires second_inside { second ≤ length row.now }
-    ensures fills { TurnedFills side row.now at second next table.old table.new result }
-    ensures bounded { Bounded (length row.now + 1) table.new }
+    requires second_inside { second ≤ length row.now.bytes.now }
+    ensures fills { TurnedFills side row.now.bytes.now at second next table.old table.new result }
+    ensures bounded { Bounded (length row.now.bytes.now + 1) table.new }
 {
     let first = at + 1;
     put_step(table, at, Step::To(second as u32));
@@ -207,7 +207,7 @@ fn fill_turned(
 // One of two views.
 #[cycle(filling)]
 fn fill_choice(
-    row: &[u8],
+    row: &Row,
     at: usize,
     second: usize,
     next: usize,
@@ -215,13 +215,13 @@ fn fill_choice(
     table: &mut [u32],
     room: &mut [u32],
 ) -> Option<(usize, Answer)>
-    requires ready { Ready row.now next table.old }
-    requires enough { 3 * pair_words (length row.now + 1) ≤ length room.old }
-    requires inside { at < length row.now }
+    requires ready { Ready row.now.bytes.now next table.old }
+    requires enough { 3 * pair_words (length row.now.bytes.now + 1) ≤ length room.old }
+    requires inside { at < length row.now.bytes.now }
     requires second_after { at < second }
-    requires second_inside { second ≤ length row.now }
-    ensures fills { ChoiceFills side row.now at second next table.old table.new result }
-    ensures bounded { Bounded (length row.now + 1) table.new }
+    requires second_inside { second ≤ length row.now.bytes.now }
+    ensures fills { ChoiceFills side row.now.bytes.now at second next table.old table.new result }
+    ensures bounded { Bounded (length row.now.bytes.now + 1) table.new }
 {
     let first = at + 1;
     put_step(table, at, Step::Fork(first as u32, second as u32));
@@ -234,18 +234,18 @@ fn fill_choice(
 // Any number of parts of one view, none of them empty.
 #[cycle(filling)]
 fn fill_parts(
-    row: &[u8],
+    row: &Row,
     at: usize,
     next: usize,
     side: Side,
     table: &mut [u32],
     room: &mut [u32],
 ) -> Option<(usize, Answer)>
-    requires ready { Ready row.now next table.old }
-    requires enough { 3 * pair_words (length row.now + 1) ≤ length room.old }
-    requires inside { at < length row.now }
-    ensures fills { PartsFills side row.now at next table.old table.new result }
-    ensures bounded { Bounded (length row.now + 1) table.new }
+    requires ready { Ready row.now.bytes.now next table.old }
+    requires enough { 3 * pair_words (length row.now.bytes.now + 1) ≤ length room.old }
+    requires inside { at < length row.now.bytes.now }
+    ensures fills { PartsFills side row.now.bytes.now at next table.old table.new result }
+    ensures bounded { Bounded (length row.now.bytes.now + 1) table.new }
 {
     let part = at + 1;
     put_step(table, at, Step::Fork(next as u32, part as u32));
@@ -256,11 +256,10 @@ fn fill_parts(
 }
 
 // The table as an automaton, with a state for each place of the row and one for its end.
-fn laid<'a>(row: &[u8], table: &'a [u32]) -> Automaton<'a>
-    requires short { length row.now ≤ 1024 }
-    requires bounded { Bounded (length row.now + 1) table.now }
+fn laid<'a>(row: &Row, table: &'a [u32]) -> Automaton<'a>
+    requires bounded { Bounded (length row.now.bytes.now + 1) table.now }
     ensures table { result.table.now ≡ table.now }
-    ensures states { result.states ≡ length row.now + 1 }
+    ensures states { result.states ≡ length row.now.bytes.now + 1 }
 {
-    Automaton::new(table, row.len() + 1)
+    Automaton::new(table, row.bytes.len() + 1)
 }

@@ -1,9 +1,8 @@
 -- The answers of `viable_prefix`: the table that was laid reads the form of the side.
-use Rattle.std.proofs.Common.{◌≡◌, ℕ, ◌≤◌, true, List, [], ◌∷◌, Result, Ok, Err, length, arith}
+use Rattle.std.proofs.Common.{◌≡◌, ℕ, ◌≤◌, List, [], ◌∷◌, Result, Ok, Err, length, arith}
 use Rattle.lens.specs.Forms.{Text, Form, empty, one, seq, or, many, exactly}
 use Rattle.lens.specs.Views.{View, copy, hide, then, swap, either, each}
 use Rattle.rows.specs.Rows.{FormFine, AllBytes, ViewFine, Encodes}
-use Rattle.rows.specs.Reads.{IsView}
 use Rattle.clear.specs.declared.side.Side.{Side}
 use Rattle.clear.specs.declared.side.Side.TheVariants.{Source, Look}
 use Rattle.clear.specs.Sides.{side_form}
@@ -59,8 +58,7 @@ large : (r : Result (Unit {0}) Break) → answer r ≡ Err Small → ⊥
 large (Ok _) e = cc
 large (Err b) e = cc
 
-pub fit_post : {side : Side} {s t : List ℕ} {u : Text} {w : ℕ} (r : Result (Unit {0}) Break) → room s (length u) ≤ w → IsView s true → Lays side s t →
+pub fit_post : {side : Side} {s t : List ℕ} {u : Text} {w : ℕ} (r : Result (Unit {0}) Break) → room s (length u) ≤ w → (v : View) × Encodes s v → Lays side s t →
     ReadsText t (length s) u r → FitPost side s u w (answer r)
-fit_post r enough is lays read =
-    let (v, e) = is.says in
+fit_post r enough (v, e) lays read =
     record { says = says r v e lays read; small = (λ less. absurd (omega arith), λ is_small. absurd (large r is_small)) }

@@ -18,7 +18,7 @@ pub(crate) fn admit<'v>(view: &'v [u8], texts: usize, work: &mut [u32]) -> Resul
     let Some(row) = Row::of_view(view) else {
         return Err(Refused::NoSuch);
     };
-    if !is_clear(row.bytes, work).yes {
+    if !is_clear(&row, work).yes {
         return Err(Refused::Muddy);
     }
     Ok(row)

@@ -5,7 +5,7 @@ ghost use Rattle.views.specs.Fits.{FitPost};
 
 use crate::room::has_room;
 use clear::{Side, lay};
-use rows::is_view;
+use rows::Row;
 use viable::{Break, read};
 
 // Why a text isn't said to be of a form: its longest front that some text of the form begins with ends here; the bytes say
@@ -32,11 +32,11 @@ pub fn viable_prefix(view: &[u8], side: Side, text: &[u8], work: &mut [u32]) -> 
     if !has_room(view.len(), text.len(), work.len()) {
         return Err(Unfit::Small);
     }
-    if !is_view(view) {
+    let Some(row) = Row::of_view(view) else {
         return Err(Unfit::NoSuch);
-    }
+    };
     let (table, room) = work.split_at_mut(4 * view.len());
-    lay(view, side, table, room);
+    lay(&row, side, table, room);
     read(table, view.len(), text, room)?;
     Ok(())
 }

@@ -24,7 +24,7 @@ pub fn judge(view: &[u8], work: &mut [u32]) -> Judged
     let Some(row) = Row::of_view(view) else {
         return Judged::NoView;
     };
-    if is_clear(row.bytes, work).yes {
+    if is_clear(&row, work).yes {
         Judged::Plain
     } else {
         Judged::Unclear

@@ -7,7 +7,6 @@ pub fill_view-requires : goal.fill_view-requires
 fill_view-requires c =
     record {
       ready = record {
-        short = c.requires.short;
         table_long = omega (arith, c.fill.auto.self);
         next_inside = omega arith;
         bounded = bounded_zeros _ _ (λ k h. search rules);

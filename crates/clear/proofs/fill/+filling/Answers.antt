@@ -67,49 +67,49 @@ fill_view-returns-in-Look t c =
 pub fill_view-returns-in_err-second-in-Then : goal.fill_view-returns-in_err-second-in-Then
 fill_view-returns-in_err-second-in-Then t c =
     record {
-      fills = rw c.from_residual-in_err-second-in-Then.ensures (view_nowhere (nowhere_tagged builds_then (rw c.in-Then.is at c.in_ok-view_node.ensures) (nowhere_first view_row ViewFine view_row ViewFine (c.in_err-second-in-Then.ensures.ends c.requires.ready.short))));
+      fills = rw c.from_residual-in_err-second-in-Then.ensures (view_nowhere (nowhere_tagged builds_then (rw c.in-Then.is at c.in_ok-view_node.ensures) (nowhere_first view_row ViewFine view_row ViewFine c.in_err-second-in-Then.ensures)));
       bounded = c.requires.ready.bounded;
     }
 
 pub fill_view-returns-in_ok-second-in-Then : goal.fill_view-returns-in_ok-second-in-Then
 fill_view-returns-in_ok-second-in-Then t c =
     record {
-      fills = view_then c.args.side (rw c.in-Then.is at c.in_ok-view_node.ensures) (c.in_ok-second-in-Then.ensures.ends c.requires.ready.short) c.fill_series.ensures.fills;
+      fills = view_then c.args.side (rw c.in-Then.is at c.in_ok-view_node.ensures) c.in_ok-second-in-Then.ensures c.fill_series.ensures.fills;
       bounded = c.fill_series.ensures.bounded;
     }
 
 pub fill_view-returns-in_err-second-in-Swap : goal.fill_view-returns-in_err-second-in-Swap
 fill_view-returns-in_err-second-in-Swap t c =
     record {
-      fills = rw c.from_residual-in_err-second-in-Swap.ensures (view_nowhere (nowhere_tagged builds_swap (rw c.in-Swap.is at c.in_ok-view_node.ensures) (nowhere_first view_row ViewFine view_row ViewFine (c.in_err-second-in-Swap.ensures.ends c.requires.ready.short))));
+      fills = rw c.from_residual-in_err-second-in-Swap.ensures (view_nowhere (nowhere_tagged builds_swap (rw c.in-Swap.is at c.in_ok-view_node.ensures) (nowhere_first view_row ViewFine view_row ViewFine c.in_err-second-in-Swap.ensures)));
       bounded = c.requires.ready.bounded;
     }
 
 pub fill_view-returns-in-Source-side : goal.fill_view-returns-in-Source-side
 fill_view-returns-in-Source-side t c =
     record {
-      fills = rw c.in-Source-side.is (view_swap (rw c.in-Swap.is at c.in_ok-view_node.ensures) (c.in_ok-second-in-Swap.ensures.ends c.requires.ready.short) (rw c.in-Source-side.is at c.fill_series-in-Source-side.ensures.fills));
+      fills = rw c.in-Source-side.is (view_swap (rw c.in-Swap.is at c.in_ok-view_node.ensures) c.in_ok-second-in-Swap.ensures (rw c.in-Source-side.is at c.fill_series-in-Source-side.ensures.fills));
       bounded = c.fill_series-in-Source-side.ensures.bounded;
     }
 
 pub fill_view-returns-in-Look-side : goal.fill_view-returns-in-Look-side
 fill_view-returns-in-Look-side t c =
     record {
-      fills = rw c.in-Look-side.is (view_turned (rw c.in-Swap.is at c.in_ok-view_node.ensures) (c.in_ok-second-in-Swap.ensures.ends c.requires.ready.short) (rw c.in-Look-side.is at c.fill_turned.ensures.fills));
+      fills = rw c.in-Look-side.is (view_turned (rw c.in-Swap.is at c.in_ok-view_node.ensures) c.in_ok-second-in-Swap.ensures (rw c.in-Look-side.is at c.fill_turned.ensures.fills));
       bounded = c.fill_turned.ensures.bounded;
     }
 
 pub fill_view-returns-in_err-second-in-Either : goal.fill_view-returns-in_err-second-in-Either
 fill_view-returns-in_err-second-in-Either t c =
     record {
-      fills = rw c.from_residual-in_err-second-in-Either.ensures (view_nowhere (nowhere_tagged builds_either (rw c.in-Either.is at c.in_ok-view_node.ensures) (nowhere_first view_row ViewFine view_row ViewFine (c.in_err-second-in-Either.ensures.ends c.requires.ready.short))));
+      fills = rw c.from_residual-in_err-second-in-Either.ensures (view_nowhere (nowhere_tagged builds_either (rw c.in-Either.is at c.in_ok-view_node.ensures) (nowhere_first view_row ViewFine view_row ViewFine c.in_err-second-in-Either.ensures)));
       bounded = c.requires.ready.bounded;
     }
 
 pub fill_view-returns-in_ok-second-in-Either : goal.fill_view-returns-in_ok-second-in-Either
 fill_view-returns-in_ok-second-in-Either t c =
     record {
-      fills = view_either c.args.side (rw c.in-Either.is at c.in_ok-view_node.ensures) (c.in_ok-second-in-Either.ensures.ends c.requires.ready.short) c.fill_choice.ensures.fills;
+      fills = view_either c.args.side (rw c.in-Either.is at c.in_ok-view_node.ensures) c.in_ok-second-in-Either.ensures c.fill_choice.ensures.fills;
       bounded = c.fill_choice.ensures.bounded;
     }
 

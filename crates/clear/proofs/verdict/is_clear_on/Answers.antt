@@ -7,12 +7,11 @@ pub fill_view-requires : goal.fill_view-requires
 fill_view-requires c =
     record {
       ready = record {
-        short = c.requires.short;
         table_long = omega (arith, c.split_at_mut-table.ensures.front_len, c.fill.auto.self);
         next_inside = omega arith;
         bounded = bounded_zeros _ _ (λ k h. search rules);
       };
-      enough = omega (arith, room_enough (length c.args.row.now) (length c.args.work.now) c.requires.short c.requires.enough, c.split_at_mut-table.ensures.back_len);
+      enough = omega (arith, room_enough (length c.args.row.now.bytes.now) (length c.args.work.now) c.args.row.now.short c.requires.enough, c.split_at_mut-table.ensures.back_len);
     }
 
 pub returns-in-Some : goal.returns-in-Some

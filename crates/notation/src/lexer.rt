@@ -46,25 +46,25 @@ pub fn next(text: &[u8], at: usize, quoted: &mut Vec<u8>) -> Result<Lexeme, Faul
             end: start,
         });
     }
-    let place = Place { text, start };
+    let cursor = Cursor { text, start };
     match text[start] {
-        b'\'' => place.byte(),
-        b'"' => place.quote(quoted),
-        b'.' => place.dots(),
-        first if is_letter(first) => place.word(),
-        first => place.sign(first),
+        b'\'' => cursor.byte(),
+        b'"' => cursor.quote(quoted),
+        b'.' => cursor.dots(),
+        first if is_letter(first) => cursor.word(),
+        first => cursor.sign(first),
     }
 }
 
-// A place in a text at which a token begins.
+// A text, and where in it a token begins.
 #[derive(Clone, Copy)]
-struct Place<'a> {
+struct Cursor<'a> {
     text: &'a [u8],
     start: usize,
     ghost inside: { start < length text.now },
 }
 
-impl Place<'_> {
+impl Cursor<'_> {
     fn sign(&self, first: u8) -> Result<Lexeme, Fault>
         ensures { IfOk result (λ l. Read (length self.now.text.now) self.now.start l) }
     {
@@ -136,11 +136,10 @@ impl Place<'_> {
         match self.text.get(at) {
             None => Err(self.fault(Wrong::Unclosed)),
             Some(b'\n') => Err(Fault::new(self.text, at, Wrong::NewlineInQuotes)),
-            Some(b'\\') => escaped(self.text, at + 1).ok_or_else(|| Fault::new(
-                self.text,
-                at,
-                Wrong::BadEscape,
-            )),
+            Some(b'\\') => match escaped(self.text, at + 1) {
+                Some(one) => Ok(one),
+                None => Err(Fault::new(self.text, at, Wrong::BadEscape)),
+            },
             Some(byte) => Ok(One {
                 byte: *byte,
                 end: at + 1,

@@ -13,7 +13,8 @@ pub const LONGEST: usize = 1024;
 pub struct Row {
     // The row, as long as it has its place; past that, nothing of use.
     bytes: Vec<u8>,
-    // How long the row is, or usize::MAX if it is longer than that.
+    // How long the row is, or usize::MAX if it is longer than that. Not the length of `bytes`: a row past LONGEST is only
+    // counted. An enum of the two cases would ask each method below what to do in three, where they now ask once.
     total: usize,
     ghost whole: { total ≤ 1024 → vec_len bytes ≡ total },
 }

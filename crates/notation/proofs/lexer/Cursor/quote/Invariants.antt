@@ -1,5 +1,5 @@
 use Rattle.std.proofs.Common.{◌-◌, ◌<◌, length}
-use Rattle.notation.proofs.lexer.Place.quote.Given as goal
+use Rattle.notation.proofs.lexer.Cursor.quote.Given as goal
 
 abbrev pub invariant-loop-at : goal.invariant-loop-at
 invariant-loop-at l = l.self.start < l.at

@@ -93,10 +93,10 @@ impl Cursor<'_> {
         ensures { IfOk result (λ l. Read (length self.now.text.now) self.now.start l) }
     {
         let end = word_end(self.text, self.start + 1);
-        match keyword(&self.text[self.start..end]) {
-            Some(token) => Ok(self.lexeme(token, end)),
-            None => Err(self.fault(Wrong::UnknownWord)),
-        }
+        let token = keyword(&self.text[self.start..end]).ok_or_else(|| self.fault(
+            Wrong::UnknownWord,
+        ))?;
+        Ok(self.lexeme(token, end))
     }
 
     // A byte in single quotes.
@@ -136,10 +136,10 @@ impl Cursor<'_> {
         match self.text.get(at) {
             None => Err(self.fault(Wrong::Unclosed)),
             Some(b'\n') => Err(Fault::new(self.text, at, Wrong::NewlineInQuotes)),
-            Some(b'\\') => match escaped(self.text, at + 1) {
-                Some(one) => Ok(one),
-                None => Err(Fault::new(self.text, at, Wrong::BadEscape)),
-            },
+            Some(b'\\') => {
+                let wrong = || Fault::new(self.text, at, Wrong::BadEscape);
+                escaped(self.text, at + 1).ok_or_else(wrong)
+            }
             Some(byte) => Ok(One {
                 byte: *byte,
                 end: at + 1,
@@ -149,7 +149,9 @@ impl Cursor<'_> {
 
     // The token that begins here and ends there.
     fn lexeme(&self, token: Token, end: usize) -> Lexeme
-        ensures { (result.token ≡ token) × (result.start ≡ self.now.start) × (result.«end» ≡ «end») }
+        ensures token { result.token ≡ token }
+        ensures begins { result.start ≡ self.now.start }
+        ensures ends { result.«end» ≡ «end» }
     {
         Lexeme {
             token,

@@ -1,16 +1,8 @@
 use Rattle.std.proofs.Common.{[], ◌∷◌, get_or, take}
 use Rattle.lens.specs.Forms.{one}
 use Rattle.rows.specs.Rows.{form_row}
-use Rattle.notation.proofs.Spelling.{grown_none, grown_then, grown_as, letters, letters_more, spelled_none, spelled_all}
+use Rattle.notation.proofs.Spelling.{grown_then, grown_as, letters, letters_more, spelled_all}
 use Rattle.notation.proofs.forms.literal.Goals as goal
-
-pub returns-in_default : goal.returns-in_default
-returns-in_default c =
-    let pushed = c.in_ok-push.ensures in
-    grown_as (spelled_none _ c.in_default.ensures.cases) (record { grows = pushed.grows; becomes = pushed.becomes })
-
-pub loop-byte-init : goal.loop-byte-init
-loop-byte-init c = grown_none c.args.row.now
 
 pub loop-byte-preserved : goal.loop-byte-preserved
 loop-byte-preserved c =

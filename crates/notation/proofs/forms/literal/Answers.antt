@@ -11,7 +11,7 @@ loop-byte-preserved c =
     let pushed = c.in_ok-push-2.ensures in
     grown_as (letters_more front i c.loop-byte-test.true)
     (grown_then (letters (take i front)) (2 ∷ 1 ∷ get_or front i 0 ∷ get_or front i 0 ∷ []) c.loop-byte.invariant
-    (grown_then (2 ∷ []) (1 ∷ get_or front i 0 ∷ get_or front i 0 ∷ []) (record { grows = pushed.grows; becomes = pushed.becomes }) c.in_ok-range.ensures))
+    (grown_then (2 ∷ []) (1 ∷ get_or front i 0 ∷ get_or front i 0 ∷ []) pushed c.in_ok-range.ensures))
 
 pub returns : goal.returns
 returns c =

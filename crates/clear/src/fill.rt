@@ -1,5 +1,6 @@
 // Lays one side of a row into the table of an automaton, node by node, and asks each condition of that side as
 // soon as the states that it is about stand in the table. States are places of the row; the end is its length.
+// The room stays a parameter: in a struct beside the row, each call would have to say that the row is still the same.
 ghost use Rattle.std.specs.Prelude.{◌≡◌, ◌+◌, ◌*◌, ◌<◌, ◌≤◌, length};
 ghost use Rattle.pairs.specs.Room.{pair_words};
 ghost use Rattle.pairs.specs.Table.{Bounded};

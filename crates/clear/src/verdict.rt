@@ -7,7 +7,8 @@ use crate::side::Side;
 use pairs::Answer;
 use rows::Row;
 
-// Whether the view that the row says is clear, and how many pairs of states were visited to tell. What the words hold afterwards is free.
+// Whether the view that the row says is clear, and how many pairs of states were visited to tell. What the words hold
+// afterwards is free.
 pub fn is_clear(row: &Row, work: &mut [u32]) -> Answer
     requires enough { clear_words (length row.now.bytes.now) ≤ length work.old }
     ensures { Tells row.now.bytes.now result }

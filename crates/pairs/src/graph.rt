@@ -1,5 +1,6 @@
 // The pairs of states as a graph: the pair of `first` and `second` is the node first * states + second, and its edges
 // are the moves of two runs side by side.
+// A state is a word of the table or a place that a caller counts, so each contract says its bound, and no type does.
 ghost use Rattle.std.specs.Prelude.{◌≡◌, ℕ, ◌+◌, ◌*◌, ◌^◌, ◌<◌, ◌≤◌};
 ghost use Rattle.std.proofs.Common.{rules};
 ghost use Rattle.automata.specs.Automaton.{stop};

@@ -104,8 +104,5 @@ fn enter(before: &Pairs, seen: &[u32], entered: &mut [u32])
 fn is_leaf(step: Step) -> bool
     ensures { Decides result (Leaf (shape step)) }
 {
-    match step {
-        Step::Leaf(_, _, _) => true,
-        _ => false,
-    }
+    matches!(step, Step::Leaf(_, _, _))
 }

@@ -1,5 +1,6 @@
 // Sets of states as bits: those that are come to with the text so far. A set is closed under moves without a byte, and a
 // byte of the text leads from one set to the next.
+// That a set has a bit for each state is one inequality in each contract; a name for it would only hide it.
 ghost use Rattle.std.specs.Prelude.{◌≡◌, ◌*◌, ◌<◌, ◌≤◌, [], length};
 ghost use Rattle.viable.specs.States.{After, MarksOn, Advanced, Follows, Expects};
 

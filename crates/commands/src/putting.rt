@@ -22,10 +22,10 @@ pub fn put(rt: &HostRuntime, args: &[String]) -> Result<Vec<u8>, Refusal> {
     match read_arguments(args)? {
         Asked::Help => Ok(Vec::from_slice(rt.alloc(), HELP.as_bytes())?),
         Asked::Version => Ok(Vec::from_slice(rt.alloc(), VERSION.as_bytes())?),
-        Asked::Work("", [view, source, look]) => {
+        Asked::Work(None, [view, source, look]) => {
             changed_source(rt, view.as_str(), source.as_str(), look.as_str())
         }
-        Asked::Work("--new", [view, look]) => new_source(rt, view.as_str(), look.as_str()),
+        Asked::Work(Some("--new"), [view, look]) => new_source(rt, view.as_str(), look.as_str()),
         _ => Err(Refusal::Usage(USAGE)),
     }
 }

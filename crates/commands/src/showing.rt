@@ -20,7 +20,7 @@ pub fn show(rt: &HostRuntime, args: &[String]) -> Result<Vec<u8>, Refusal> {
     match read_arguments(args)? {
         Asked::Help => Ok(Vec::from_slice(rt.alloc(), HELP.as_bytes())?),
         Asked::Version => Ok(Vec::from_slice(rt.alloc(), VERSION.as_bytes())?),
-        Asked::Work("", [view, source]) => look(rt, view.as_str(), source.as_str()),
+        Asked::Work(None, [view, source]) => look(rt, view.as_str(), source.as_str()),
         _ => Err(Refusal::Usage(USAGE)),
     }
 }

@@ -44,7 +44,7 @@ pub fn more(row: &mut Row, at: usize) -> Result<(), AllocError>
     Ok(())
 }
 
-// One byte that is none of `bytes`, as the ranges that they leave; false if they leave none.
+// One byte that is none of `bytes`, as the ranges that they leave; false if they leave none, of which the caller says where.
 pub fn none_of(row: &mut Row, bytes: &[u8]) -> Result<bool, AllocError>
     ensures { OnOk result (row.old.total ≤ row.new.total) }
 {

@@ -234,7 +234,7 @@ impl Parser<'_> {
         Ok(())
     }
 
-    // Reads one of * + ? behind the form that begins at `at`; false if none is ahead.
+    // Reads one of * + ? behind the form that begins at `at`; false if none is ahead, which refuses nothing.
     fn sign(&mut self, at: usize) -> Result<bool, Fault>
         requires { at ≤ self.old.row.total }
         ensures { IfOk result (λ more. Signs self.old self.new more) }

@@ -49,8 +49,7 @@ struct Buffers {
 fn make_buffers(heap: Global, row: usize, texts: usize) -> Result<Buffers, Unmade>
     ensures { MatchResult result (λ lent. Lends row texts (vec_len lent.work) (vec_len lent.out)) (λ why. Unlent row texts why) }
 {
-    let lent =
-        room::lend(row, texts).ok_or_else(|| Unmade::Large(room::need(row, texts)))?;
+    let lent = room::lend(row, texts).ok_or_else(|| Unmade::Large(room::need(row, texts)))?;
     let work = vec![in heap; 0u32; lent.words]?;
     let out = vec![in heap; 0u8; lent.out]?;
     Ok(Buffers { out, work })

@@ -138,4 +138,11 @@ mod tests {
         assert_eq!(rt; first(&words, &[], 95, 65), None);
         assert_eq!(rt; first(&words, &[], 1000, 96), None);
     }
+
+    // Nothing is left of a table that another one covers.
+    #[test]
+    fn covers_bits(rt: HostRuntime) {
+        assert_eq!(rt; first(&[2], &[6], 32, 0), None);
+        assert_eq!(rt; first(&[3], &[6], 32, 0), Some(0));
+    }
 }

@@ -20,7 +20,7 @@ pub fn word_at(words: &[u32], i: usize) -> u32
 }
 
 // The first bit from `from` on, below `size`, that is true in `words` and false in `without`. The rest of a word without
-// such a bit is passed as a whole.
+// such a bit is passed as a whole, so the loop goes on by words.
 pub fn first(words: &[u32], without: &[u32], size: usize, from: usize) -> Option<usize>
     ensures { FirstFrom words.now without.now size from result }
 {
@@ -80,7 +80,7 @@ pub fn put_bits(words: &mut [u32], at: usize, len: usize, value: u32)
     put_field(words, at / 32 + 1, 0, len - here, value >> here);
 }
 
-// The same within one word, from its bit `low` on.
+// The same within one word, from its bit `low` on. That the value fits is asked in three contracts, of one step each.
 fn put_field(words: &mut [u32], word: usize, low: usize, len: usize, value: u32)
     requires within { low + len ≤ 32 }
     requires inside { word < length words.old }

@@ -1,4 +1,4 @@
-// Answers as the numbers that cross to C and Rust.
+// Answers as the numbers that cross to C and Rust: C has no enums with data.
 ghost use Rattle.std.specs.Prelude.{◌≡◌};
 ghost use Rattle.calls.specs.Codes.{judged_number, made_number, written_after};
 

@@ -43,7 +43,8 @@ pub(crate) fn fill_form(row: &Row, at: usize, next: usize, table: &mut [u32]) ->
     }
 }
 
-// A text's place, its length byte, stands for the whole text; each place reads the byte behind it.
+// A text's place, its length byte, stands for the whole text; each place reads the byte behind it. The loop counts, since a
+// place is a state's number.
 fn fill_text(row: &Row, at: usize, next: usize, table: &mut [u32]) -> Option<usize>
     requires ready { Ready row.now.bytes.now next table.old }
     ensures fills { TextFills row.now.bytes.now at next table.old table.new result }
@@ -178,7 +179,8 @@ fn fill_series(
     Some((end, front & back & !crossed))
 }
 
-// Two views of which the second one's texts come first, as the looks of swap do.
+// Two views of which the second one's texts come first, as the looks of swap do. One function for both orders would take a
+// flag, and choose three of its four places by it.
 #[cycle(filling)]
 fn fill_turned(
     row: &Row,

@@ -90,7 +90,8 @@ fn write_expected<W: fmt::Write>(place: &Break, f: &mut fmt::Formatter<W>) -> fm
     Ok(())
 }
 
-// The ranges of bytes that are in the set, or of those that aren't.
+// The ranges of bytes that are in the set, or of those that aren't. The loop counts through all bytes, each of which may end
+// a range.
 fn write_ranges<W: fmt::Write>(
     set: &ByteSet,
     inside: bool,

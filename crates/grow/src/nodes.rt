@@ -1,5 +1,7 @@
 // From a row to the tree of one side of its view. Each node stands at its own place of the row; the other places have
 // no node.
+// That the words have room for the tree stays in each contract: what they hold afterwards is promised, and a struct that held
+// them would have each contract say that they are still the same words.
 ghost use Rattle.std.specs.Prelude.{◌≡◌, ◌*◌, ◌≤◌, length};
 ghost use Rattle.grow.specs.Grown.{FormGrows, TextGrows, ShownGrows, ViewGrows, TreeOf, swapped};
 
@@ -53,7 +55,7 @@ fn grow_form(row: &Row, at: usize, up: u32, tree: &mut [u32])
 }
 
 // The text at `at`, as a part of the node at `up`: each place stands for the bytes behind it, so the length byte stands
-// for the whole text, and the last byte for the empty one.
+// for the whole text, and the last byte for the empty one. The loop counts, since a place is the number by which nodes name it.
 fn grow_text(row: &Row, at: usize, up: u32, tree: &mut [u32])
     requires tree_long { 4 * length row.now.bytes.now ≤ length tree.old }
     ensures { TextGrows row.now.bytes.now at up tree.old tree.new }

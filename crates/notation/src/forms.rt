@@ -55,7 +55,8 @@ pub fn none_of(row: &mut Row, bytes: &[u8]) -> Result<bool, AllocError>
     ranges(row, &left)
 }
 
-// One byte of those marked, as ranges upward; false if none is.
+// One byte of those marked, as ranges upward; false if none is. The loop counts through all bytes, each of which may end a
+// range.
 fn ranges(row: &mut Row, marked: &[bool; 256]) -> Result<bool, AllocError>
     ensures { OnOk result (row.old.total ≤ row.new.total) }
 {

@@ -195,6 +195,8 @@ impl Parser<'_> {
         self.advance()
     }
 
+    // `form` and `branch` go as `view` and `series` do. One function for two of them would be told at each step which of the two
+    // it is, and would make one cycle of calls of what are two: a view reads forms, and no form reads a view.
     #[cycle(forms)]
     fn form(&mut self, depth: usize) -> Result<(), Fault>
         ensures { OnOk result (Reads self.old self.new) }

@@ -86,7 +86,7 @@ fn mark_only(words: &mut [u32], node: usize)
 }
 
 // Marks the pairs from which two runs may go on behind the middle, where `before` stops: the first one is there, and
-// the second one is about to read a byte.
+// the second one is about to read a byte. The loop counts, since states are numbers.
 fn enter(before: &Pairs, seen: &[u32], entered: &mut [u32])
     requires middle_inside { before.now.«end» < before.now.automaton.states }
     requires enough { before.now.automaton.states * before.now.automaton.states ≤ 32 * length entered.old }

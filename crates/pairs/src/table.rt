@@ -14,7 +14,7 @@ pub enum Step {
     Leaf(u32, u32, u32),
 }
 
-// A kind, and what belongs to it; any other kind stops.
+// A kind, and what belongs to it; any other kind stops. The words are lent, so a kind is a number there.
 impl From<[u32; 4]> for Step {
     ghost from_gives = { λ words step. shape step ≡ shape_of_words words };
 

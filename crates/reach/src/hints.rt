@@ -1,5 +1,5 @@
 // A stack of nodes that may be fresh, in lent words. It makes the search fast, and nothing rests on what it names: what a
-// full stack drops is found again by the scan over the words.
+// full stack drops is found again by the scan over the words. The calls have no heap, so it is no Vec.
 ghost use Rattle.std.specs.Prelude.{◌≡◌, ◌+◌, ◌^◌, ◌<◌, ◌≤◌, length, IsSome};
 
 #[derive(Drop)]

@@ -78,6 +78,8 @@ fn reason(why: Refused, lent: usize) -> Unmade
     }
 }
 
+// The three calls that follow are three lines each; a closure's contract over what is lent to it would be longer.
+
 // The look of a source.
 pub fn shown(heap: Global, row: &[u8], source: &[u8]) -> Result<Vec<u8>, Unmade>
     ensures { MatchResult result (λ look. Wanted row.now (λ v x. Shows v source.now x) look.items) (λ why. Unwanted row.now (length source.now) (λ v x. Shows v source.now x) (λ v. Matches (sources v) source.now) (λ v. Unit {0}) why) }

@@ -6,7 +6,7 @@ use records::{put_record, record_at};
 
 // A node, with the places of its parts: none at all; the form of the empty text; one byte from the first number to the
 // second; one part after the other; one or the other; any number of parts; the same as its part; one byte, and then
-// its part.
+// its part. `None` is one of them and no Option: the passes go by it as by the other nodes without parts.
 #[derive(Clone, Copy, Debug, PartialEq, Eq)]
 pub enum Node {
     None,
@@ -19,7 +19,7 @@ pub enum Node {
     Byte(u32, u32),
 }
 
-// The three words of a node: any other kind is no node.
+// The three words of a node: any other kind is no node. The words are lent, so a kind is a number there.
 impl From<[u32; 3]> for Node {
     ghost from_gives = { λ words node. node ≡ node_of_words words };
 

@@ -45,7 +45,7 @@ impl<'a> Scanner<'a> {
         text.len()
     }
 
-    // The bytes that some state of the set reads. `next` is room to work in.
+    // The bytes that some state of the set reads. `next` is room to work in. The loop counts through all bytes.
     pub fn expected(&self, set: &[u32], next: &mut [u32]) -> ByteSet
         requires set_room { self.now.automaton.states ≤ 32 * length set.now }
         requires next_room { self.now.automaton.states ≤ 32 * length next.old }

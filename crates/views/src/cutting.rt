@@ -11,7 +11,8 @@ use rows::Row;
 use trees::{Tree, mark_null};
 use walk::CutText;
 
-// Cuts the text by the view, which is clear, or says that the text isn't of the form of that side.
+// Cuts the text by the view, which is clear, or says that the text isn't of the form of that side. A type for clear rows
+// would keep that there is a view, and not which, which the cut is about.
 pub(crate) fn cut_text<'w, 't>(
     row: &Row,
     side: Side,

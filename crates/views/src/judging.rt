@@ -5,7 +5,8 @@ ghost use Rattle.views.specs.Judged.{JudgedPost};
 use clear::is_clear;
 use rows::Row;
 
-// What is said of a view: it is clear, it is not, the bytes say none, or there are too few work words to tell.
+// What is said of a view: it is clear, it is not, the bytes say none, or there are too few work words to tell. Four verdicts,
+// none of which is a failure of the call, so it is no Result.
 #[derive(Clone, Copy, Debug, PartialEq, Eq)]
 pub enum Judged {
     Plain,

@@ -1,4 +1,4 @@
--- The digits of words, and the tables that a write leaves.
-pub mod Digits
+-- The digits of words, the scan for a bit, and the tables that a write leaves.
 pub mod Fields
+pub mod Scans
 pub mod Tables

@@ -2,17 +2,45 @@
 // Not here: where the words come from, and what a bit stands for; both are the caller's.
 #![tactic(auto)]
 
-ghost use Rattle.std.specs.Prelude.{◌≡◌, ◌+◌, ◌*◌, ◌^◌, ◌<◌, ◌≤◌, true, length, Decides};
-ghost use Rattle.bits.specs.Bits.{bit, Puts, PutsBits, with_field, Clears, Covers};
+ghost use Rattle.std.specs.Prelude.{◌≡◌, ◌+◌, ◌*◌, ◌^◌, ◌<◌, ◌≤◌, true, length, slice_index};
+ghost use Rattle.bits.specs.Bits.{bit, Puts, PutsBits, with_field, Clears, LeftWord, FirstFrom};
 
 // Bit `k`; false past the end.
 pub fn get(words: &[u32], k: usize) -> bool
     ensures { result ≡ bit words.now k }
 {
-    if k / 32 >= words.len() {
-        return false;
+    (word_at(words, k / 32) >> (k % 32)) % 2 == 1
+}
+
+// Word `i`; 0 past the end.
+pub fn word_at(words: &[u32], i: usize) -> u32
+    ensures { result ≡ slice_index words.now i }
+{
+    words.get(i).copied().unwrap_or(0)
+}
+
+// The first bit from `from` on, below `size`, that is true in `words` and false in `without`. The rest of a word without
+// such a bit is passed as a whole, so the loop goes on by words.
+pub fn first(words: &[u32], without: &[u32], size: usize, from: usize) -> Option<usize>
+    ensures { FirstFrom words.now without.now size from result }
+{
+    let mut k = from;
+    while k < size {
+        let rest = left(words, without, k / 32) >> (k % 32);
+        if rest > 0 {
+            let found = k + rest.trailing_zeros() as usize;
+            return if found < size { Some(found) } else { None };
+        }
+        k = k.saturating_add(32 - k % 32);
     }
-    (words[k / 32] >> (k % 32)) % 2 == 1
+    None
+}
+
+// The bits of word `i` that are true in `words` and false in `without`.
+fn left(words: &[u32], without: &[u32], i: usize) -> u32
+    ensures { LeftWord words.now without.now i result }
+{
+    word_at(words, i) & !word_at(without, i)
 }
 
 // Makes bit `k` true.
@@ -52,7 +80,7 @@ pub fn put_bits(words: &mut [u32], at: usize, len: usize, value: u32)
     put_field(words, at / 32 + 1, 0, len - here, value >> here);
 }
 
-// The same within one word, from its bit `low` on.
+// The same within one word, from its bit `low` on. That the value fits is asked in three contracts, of one step each.
 fn put_field(words: &mut [u32], word: usize, low: usize, len: usize, value: u32)
     requires within { low + len ≤ 32 }
     requires inside { word < length words.old }
@@ -74,21 +102,11 @@ fn with_field(word: u32, low: usize, len: usize, value: u32) -> u32
     ((((above << len) + value as u64) << low) + kept) as u32
 }
 
-// Whether word `i` of `words` has every bit that word `i` of `others` has.
-pub fn covers(words: &[u32], others: &[u32], i: usize) -> bool
-    requires within { (i < length words.now) × (i < length others.now) }
-    ensures { Decides result (Covers words.now others.now i) }
-{
-    words[i] | others[i] == words[i]
-}
-
 // Makes every bit false.
 pub fn clear(words: &mut [u32])
     ensures { Clears words.old words.new }
 {
-    for word in words.iter_mut() {
-        *word = 0;
-    }
+    words.fill(0);
 }
 
 #[cfg(test)]
@@ -109,9 +127,22 @@ mod tests {
         assert_eq!(rt; words, [0, 0]);
     }
 
+    // In the same word, behind words that are passed, and none below the size.
+    #[test]
+    fn first_bits(rt: HostRuntime) {
+        let words = [6u32, 0, 0x8000_0001];
+        assert_eq!(rt; first(&words, &[], 96, 0), Some(1));
+        assert_eq!(rt; first(&words, &[2], 96, 0), Some(2));
+        assert_eq!(rt; first(&words, &[2], 96, 3), Some(64));
+        assert_eq!(rt; first(&words, &[], 96, 65), Some(95));
+        assert_eq!(rt; first(&words, &[], 95, 65), None);
+        assert_eq!(rt; first(&words, &[], 1000, 96), None);
+    }
+
+    // Nothing is left of a table that another one covers.
     #[test]
     fn covers_bits(rt: HostRuntime) {
-        assert!(rt; covers(&[6], &[2], 0));
-        assert!(rt; !covers(&[6], &[3], 0));
+        assert_eq!(rt; first(&[2], &[6], 32, 0), None);
+        assert_eq!(rt; first(&[3], &[6], 32, 0), Some(0));
     }
 }

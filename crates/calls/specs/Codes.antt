@@ -1,12 +1,11 @@
 -- The numbers of answers, and what the exported calls promise: there is an answer of which the number is returned, and it is
 -- one that the call of the same name promises.
-use Rattle.std.specs.Prelude.{◌≡◌, ℕ, List}
+use Rattle.std.specs.Prelude.{◌≡◌, ℕ, List, Ok, Err}
 use Rattle.views.specs.declared.judging.Judged.{Judged}
 use Rattle.views.specs.declared.judging.Judged.TheVariants.{Plain, Unclear, NoView, Few}
-use Rattle.views.specs.declared.made.Made.{Made}
-use Rattle.views.specs.declared.made.Made.TheVariants.{Done, Muddy, NoSuch, NoSource, NoLook, Full, Small}
+use Rattle.views.specs.declared.made.Refused.TheVariants.{Muddy, NoSuch, NoSource, NoLook, Full, Small}
 use Rattle.views.specs.Judged.{JudgedPost}
-use Rattle.views.specs.Made.{ShownPost, MadePost}
+use Rattle.views.specs.Made.{Made, ShownPost, MadePost}
 use Rattle.views.specs.Put.{PutPost}
 
 abbrev pub judged_number : Judged → ℕ
@@ -16,23 +15,18 @@ judged_number NoView = 2
 judged_number Few = 3
 
 abbrev pub made_number : Made → ℕ
-made_number (Done n) = 0
-made_number Muddy = 1
-made_number NoSuch = 2
-made_number NoSource = 3
-made_number NoLook = 4
-made_number Full = 5
-made_number Small = 6
+made_number (Ok n) = 0
+made_number (Err Muddy) = 1
+made_number (Err NoSuch) = 2
+made_number (Err NoSource) = 3
+made_number (Err NoLook) = 4
+made_number (Err Full) = 5
+made_number (Err Small) = 6
 
 -- What `written` is after an answer: how many bytes were written at done, and otherwise what it was.
 abbrev pub written_after : Made → ℕ → ℕ
-written_after (Done n) was = n
-written_after Muddy was = was
-written_after NoSuch was = was
-written_after NoSource was = was
-written_after NoLook was = was
-written_after Full was = was
-written_after Small was = was
+written_after (Ok n) was = n
+written_after (Err why) was = was
 
 -- The number r is that of an answer which judging the view s with w work words promises.
 pub record JudgeAnswers (s : List ℕ) (w r : ℕ) : Type 0 where

@@ -5,10 +5,9 @@ ghost use Rattle.calls.specs.Parses.{ParsedSays, ParseAnswers};
 use notation::Fault;
 use std::alloc::Global;
 
-// What came of a text: a row of so many bytes, why it says no view, or that the row is longer than the bytes lent for it.
+// Why no row came of a text: it says no view, or the row is longer than the bytes lent for it.
 #[derive(Clone, Copy)]
-pub enum Parsed {
-    Done(usize),
+pub enum Unparsed {
     NoView,
     Full,
 }
@@ -35,32 +34,39 @@ pub extern "C" fn views_parse(
     ensures { ParseAnswers row.old row.new written.old written.new result }
 {
     match parse(heap, text, row, message, place) {
-        Parsed::Done(count) => {
+        Ok(count) => {
             *written = count;
             0
         }
-        Parsed::NoView => 1,
-        Parsed::Full => 2,
+        Err(Unparsed::NoView) => 1,
+        Err(Unparsed::Full) => 2,
     }
 }
 
-fn parse(heap: Global, text: &[u8], row: &mut [u8], message: &mut [u8], place: &mut Place) -> Parsed
+// The row of the view that the text says, written first in `row`, and how many bytes it has.
+fn parse(
+    heap: Global,
+    text: &[u8],
+    row: &mut [u8],
+    message: &mut [u8],
+    place: &mut Place,
+) -> Result<usize, Unparsed>
     ensures { ParsedSays row.old row.new result }
 {
     match notation::parse(heap, text) {
         Ok(bytes) => {
             if bytes.len() > row.len() {
-                return Parsed::Full;
+                return Err(Unparsed::Full);
             }
             let count = bytes.len();
             row[0..count].copy_from_slice(&bytes);
-            Parsed::Done(count)
+            Ok(count)
         }
         Err(fault) => {
             place.line = fault.line;
             place.column = fault.column;
             place.told = explain(heap, &fault, message);
-            Parsed::NoView
+            Err(Unparsed::NoView)
         }
     }
 }

@@ -1,8 +1,8 @@
-// Answers as the numbers that cross to C and Rust.
+// Answers as the numbers that cross to C and Rust: C has no enums with data.
 ghost use Rattle.std.specs.Prelude.{◌≡◌};
 ghost use Rattle.calls.specs.Codes.{judged_number, made_number, written_after};
 
-use views::{Judged, Made};
+use views::{Judged, Made, Refused};
 
 pub fn judged_code(answer: Judged) -> u32
     ensures { result ≡ judged_number answer }
@@ -21,15 +21,15 @@ pub fn tell(answer: Made, written: &mut usize) -> u32
     ensures written { written.new ≡ written_after answer written.old }
 {
     match answer {
-        Made::Done(count) => {
+        Ok(count) => {
             *written = count;
             0
         }
-        Made::Muddy => 1,
-        Made::NoSuch => 2,
-        Made::NoSource => 3,
-        Made::NoLook => 4,
-        Made::Full => 5,
-        Made::Small => 6,
+        Err(Refused::Muddy) => 1,
+        Err(Refused::NoSuch) => 2,
+        Err(Refused::NoSource) => 3,
+        Err(Refused::NoLook) => 4,
+        Err(Refused::Full) => 5,
+        Err(Refused::Small) => 6,
     }
 }

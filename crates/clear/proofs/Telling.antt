@@ -8,10 +8,9 @@ use Rattle.pairs.specs.Room.{pair_words}
 use Rattle.pairs.proofs.Tables.{zeros_stop}
 use Rattle.clear.specs.declared.side.Side.{Side}
 use Rattle.clear.specs.declared.side.Side.TheVariants.{Source, Look}
-use Rattle.clear.specs.declared.fill.Finding.{Finding}
-use Rattle.clear.specs.declared.verdict.Verdict.{Verdict}
+use Rattle.pairs.specs.declared.answer.Answer.{Answer}
 use Rattle.clear.specs.Sides.{side_form}
-use Rattle.clear.specs.Filled.{Laid, Filled, ViewFills}
+use Rattle.clear.specs.Filled.{Finding, Laid, Filled, ViewFills}
 use Rattle.clear.specs.Verdict.{clear_words, Tells, TellsSide, Lays}
 use Rattle.clear.proofs.Asking.{decides_and, decides_as}
 use Rattle.clear.proofs.Lengths.{view_long}
@@ -27,10 +26,10 @@ laid_whole {s} {v} e = record {
 }
 
 module _ {side : Side} {s t t' : List ℕ} where
-  pub tells_some : {q : Finding} {r : Verdict} → r.clear ≡ q.clear → ViewFills side s 0 (length s) t t' (Some q) → TellsSide side s r
+  pub tells_some : {q : Finding} {r : Answer} → r.yes ≡ q.1.yes → ViewFills side s 0 (length s) t t' (Some q) → TellsSide side s r
   tells_some same a = record { tells = λ v e. rw same (a.fills v (length s) (laid_whole e) (λ w. omega arith)).decides }
 
-  pub tells_none : {r : Verdict} → ViewFills side s 0 (length s) t t' None → TellsSide side s r
+  pub tells_none : {r : Answer} → ViewFills side s 0 (length s) t t' None → TellsSide side s r
   tells_none a = record { tells = λ v e. absurd (a.fills v (length s) (laid_whole e) (λ w. omega arith)) }
 
 -- The same of the side alone, which was laid into a table of zeros.
@@ -45,9 +44,9 @@ module _ {side : Side} {s t t' : List ℕ} where
     stops = λ v e. (laid_side r v a e).kept (length s) (λ w. omega arith) ∙ zeros_stop t zeros (length s);
   }
 
-pub tells_both : {s : List ℕ} {a b r : Verdict} → r.clear ≡ a.clear && b.clear → TellsSide Source s a → TellsSide Look s b → Tells s r
+pub tells_both : {s : List ℕ} {a b r : Answer} → r.yes ≡ a.yes && b.yes → TellsSide Source s a → TellsSide Look s b → Tells s r
 tells_both {a = a} {b = b} same x y = record {
-  tells = λ v e. rw same (decides_as (a.clear && b.clear) (λ p. sides_sound v p.0 p.1) (λ c. sides_complete v c) (decides_and a.clear b.clear (x.tells v e) (y.tells v e)));
+  tells = λ v e. rw same (decides_as (a.yes && b.yes) (λ p. sides_sound v p.0 p.1) (λ c. sides_complete v c) (decides_and a.yes b.yes (x.tells v e) (y.tells v e)));
 }
 
 -- The words behind the table are enough for the search.

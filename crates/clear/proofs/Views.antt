@@ -11,9 +11,8 @@ use Rattle.rows.proofs.Tags.{Hidden, hidden_row, HiddenFine, builds_copy, builds
 use Rattle.rows.proofs.Unique.{splits_view}
 use Rattle.clear.specs.declared.side.Side.{Side}
 use Rattle.clear.specs.declared.side.Side.TheVariants.{Source, Look}
-use Rattle.clear.specs.declared.fill.Finding.{Finding}
 use Rattle.clear.specs.Sides.{side_form, ClearOn}
-use Rattle.clear.specs.Filled.{Laid, Finds, Found, TwoViews, ViewFills, CopyFills, HiddenFills, LiteralFills, SeriesFills, TurnedFills, ChoiceFills, PartsFills}
+use Rattle.clear.specs.Filled.{Finding, Laid, Finds, Found, TwoViews, ViewFills, CopyFills, HiddenFills, LiteralFills, SeriesFills, TurnedFills, ChoiceFills, PartsFills}
 use Rattle.clear.proofs.Laying.{laid_somewhere, laid_behind, laid_both}
 use Rattle.clear.proofs.Lengths.{form_long, view_long, both_long}
 

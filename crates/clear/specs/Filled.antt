@@ -1,15 +1,26 @@
 -- What it means that a part of a row has been laid into the table of an automaton. States are places of the row.
-use Rattle.std.specs.Prelude.{◌≡◌, ℕ, ◌+◌, ◌<◌, ◌≤◌, List, ◌++◌, length, drop, Decides, Option, MatchOption}
+use Rattle.std.specs.Prelude.{◌≡◌, ℕ, ◌+◌, ◌*◌, ◌<◌, ◌≤◌, List, ◌++◌, length, drop, Decides, Option, MatchOption}
 use Rattle.lens.specs.Forms.{Text, Form, seq, or, many, exactly, Matches}
 use Rattle.lens.specs.Clear.{CutOnce, Apart, PartsOnce}
 use Rattle.lens.specs.Views.{View}
 use Rattle.rows.specs.Rows.{form_row, text_row, view_row, FormFine, TextFine, ViewFine}
 use Rattle.rows.proofs.Tags.{hidden_row, HiddenFine}
 use Rattle.automata.specs.Automaton.{Acts}
-use Rattle.pairs.specs.Table.{shape_at}
+use Rattle.pairs.specs.Table.{shape_at, Bounded}
+use Rattle.pairs.specs.declared.answer.Answer.{Answer}
 use Rattle.clear.specs.declared.side.Side.{Side}
-use Rattle.clear.specs.declared.fill.Finding.{Finding}
 use Rattle.clear.specs.Sides.{side_form, ClearOn}
+
+-- A table is ready for the row s: there are four words for each of its bytes, and every state goes on among the row's places
+-- and its end, as what is laid does, which goes on at `next`.
+pub record Ready (s : List ℕ) (next : ℕ) (t : List ℕ) : Type 0 where
+  pub table_long : 4 * length s ≤ length t
+  pub next_inside : next ≤ length s
+  pub bounded : Bounded (length s + 1) t
+
+-- What is found of a view: where it ends, and whether it is clear on the side that was laid.
+abbrev pub Finding : Type 0
+Finding = ℕ × Answer
 
 -- The thing x stands in the row s from `at` to e.
 pub record Laid {A : Type 0} (row : A → List ℕ) (fine : A → Type 0) (s : List ℕ) (at e : ℕ) (x : A) : Type 0 where
@@ -36,9 +47,9 @@ pub record TextFills (s : List ℕ) (at next : ℕ) (t t' : List ℕ) (r : Optio
 
 -- One side of a view is laid into the table, and it is found whether the conditions C hold.
 pub record Finds (t t' : List ℕ) (at e next : ℕ) (f : Form) (C : Type 0) (q : Finding) : Type 0 where
-  pub ends : q.end ≡ e
+  pub ends : q.0 ≡ e
   pub filled : Filled t t' at e at next f
-  pub decides : Decides q.clear C
+  pub decides : Decides q.1.yes C
 
 -- What is found of a thing x at `at`, whose texts on the side are of the form f: for every x that stands there and
 -- every place `next` outside of it.

@@ -6,18 +6,17 @@ ghost use Rattle.clear.specs.Verdict.{Lays};
 
 use crate::fill::fill_view;
 use crate::side::Side;
-use crate::verdict::erase;
+use rows::Row;
 
 // Lays one side of the view that the row says: the state 0 acts as the form of that side, and goes on at the row's
 // length, which stops. The walk is the one that judges, so it wants the same room; what it finds is let go, and what the
 // room holds afterwards is free.
-pub fn lay(row: &[u8], side: Side, table: &mut [u32], room: &mut [u32])
-    requires short { length row.now ≤ 1024 }
-    requires table_long { 4 * length row.now ≤ length table.old }
-    requires enough { 3 * pair_words (length row.now + 1) ≤ length room.old }
-    ensures lays { Lays side row.now table.new }
-    ensures bounded { Bounded (length row.now + 1) table.new }
+pub fn lay(row: &Row, side: Side, table: &mut [u32], room: &mut [u32])
+    requires table_long { 4 * length row.now.bytes.now ≤ length table.old }
+    requires enough { 3 * pair_words (length row.now.bytes.now + 1) ≤ length room.old }
+    ensures lays { Lays side row.now.bytes.now table.new }
+    ensures bounded { Bounded (length row.now.bytes.now + 1) table.new }
 {
-    erase(table);
-    let _ = fill_view(row, 0, row.len(), side, table, room);
+    table.fill(0);
+    let _ = fill_view(row, 0, row.bytes.len(), side, table, room);
 }

@@ -8,5 +8,6 @@ mod side;
 mod verdict;
 
 pub use automaton::lay;
+pub use pairs::Answer;
 pub use side::Side;
-pub use verdict::{Verdict, is_clear};
+pub use verdict::is_clear;

@@ -24,10 +24,7 @@ pub fn refusal(
         Unmade::Long(left) => refuse_whole(heap, look, Why::Long(left)),
         Unmade::Memory => Err(AllocError),
     };
-    match refused {
-        Ok(refusal) => refusal,
-        Err(_) => Refusal::Memory,
-    }
+    refused.unwrap_or_else(Refusal::from)
 }
 
 fn refuse_whole(heap: Global, input: &Input, why: Why) -> Result<Refusal, AllocError> {

@@ -5,8 +5,8 @@ use crate::refusals::Refusal;
 pub enum Asked<'a> {
     Help,
     Version,
-    // An option, empty if there is none, and the names of inputs.
-    Work(&'a str, &'a [String]),
+    // An option, if there is one, and the names of inputs.
+    Work(Option<&'a str>, &'a [String]),
     // Something else than any program here does.
     Unknown,
 }
@@ -18,16 +18,16 @@ pub fn read_arguments(args: &[String]) -> Result<Asked<'_>, Refusal> {
     };
     let option = first.as_str();
     if !option.starts_with("--") {
-        return work("", args);
+        return work(None, args);
     }
     match option {
         "--help" if rest.is_empty() => Ok(Asked::Help),
         "--version" if rest.is_empty() => Ok(Asked::Version),
-        _ => work(option, rest),
+        _ => work(Some(option), rest),
     }
 }
 
-fn work<'a>(option: &'a str, names: &'a [String]) -> Result<Asked<'a>, Refusal> {
+fn work<'a>(option: Option<&'a str>, names: &'a [String]) -> Result<Asked<'a>, Refusal> {
     let mut standard = false;
     for name in names {
         if name.as_str().starts_with("--") {

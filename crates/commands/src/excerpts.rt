@@ -8,20 +8,10 @@ const BEHIND: usize = 20;
 
 // The line around the byte at `at`, and a mark under it; nothing of an empty line.
 pub fn excerpt(heap: Global, text: &[u8], at: usize) -> Result<String, AllocError> {
-    let mut from = at;
-    for byte in text.iter().take(at).rev().take(BEFORE) {
-        if *byte == b'\n' {
-            break;
-        }
-        from = from.saturating_sub(1);
-    }
-    let mut to = at;
-    for byte in text.iter().skip(at).take(BEHIND) {
-        if *byte == b'\n' {
-            break;
-        }
-        to = to.saturating_add(1);
-    }
+    let before = text.iter().take(at).rev().take(BEFORE);
+    let behind = text.iter().skip(at).take(BEHIND);
+    let from = at.saturating_sub(before.take_while(|byte| **byte != b'\n').count());
+    let to = at.saturating_add(behind.take_while(|byte| **byte != b'\n').count());
     let mut said = String::new(heap);
     if from < to {
         let mut line = String::new(heap);

@@ -26,25 +26,22 @@ enum Limit {
 }
 
 impl Limit {
-    // Why an input of so many bytes is too long, if it is.
-    fn exceeded(self, len: usize) -> Option<Why> {
+    // Refuses an input of so many bytes if it is too long.
+    fn check(self, len: usize) -> Result<(), Why> {
         match self {
             Limit::View => {
                 if len > LONGEST_VIEW {
-                    Some(Why::LongView(LONGEST_VIEW))
-                } else {
-                    None
+                    return Err(Why::LongView(LONGEST_VIEW));
                 }
             }
             Limit::Text { row, texts } => {
                 let need = results::need(row, texts.saturating_add(len));
                 if need > results::LIMIT as u128 {
-                    Some(Why::Large(need))
-                } else {
-                    None
+                    return Err(Why::Large(need));
                 }
             }
         }
+        Ok(())
     }
 }
 
@@ -112,9 +109,7 @@ fn read_named(rt: &HostRuntime, name: &str, limit: Limit) -> Result<Input, Refus
 fn read_file(rt: &HostRuntime, name: &str, limit: Limit) -> Result<Vec<u8>, Why> {
     let file = fs::open(rt, name)?;
     let len = file.metadata()?.len() as usize;
-    if let Some(why) = limit.exceeded(len) {
-        return Err(why);
-    }
+    limit.check(len)?;
     read_all(rt.alloc(), file, limit)
 }
 
@@ -124,9 +119,7 @@ fn read_all<R: Read + Drop>(heap: Global, mut reader: R, limit: Limit) -> Result
     for _ in 0..u64::MAX {
         bytes.reserve_exact(STEP)?;
         let count = reader.by_ref().take(STEP as u64).read_to_end(&mut bytes)?;
-        if let Some(why) = limit.exceeded(bytes.len()) {
-            return Err(why);
-        }
+        limit.check(bytes.len())?;
         if count < STEP {
             break;
         }

@@ -22,11 +22,11 @@ pub fn judge(rt: &HostRuntime, args: &[String]) -> Result<Vec<u8>, Refusal> {
     match read_arguments(args)? {
         Asked::Help => Ok(Vec::from_slice(rt.alloc(), HELP.as_bytes())?),
         Asked::Version => Ok(Vec::from_slice(rt.alloc(), VERSION.as_bytes())?),
-        Asked::Work("", [name]) => {
+        Asked::Work(None, [name]) => {
             let row = read_view(rt, name.as_str())?;
             verdict(rt.alloc(), name.as_str(), &row.bytes)
         }
-        Asked::Work("--row", [name]) => match read_row(rt, name.as_str()) {
+        Asked::Work(Some("--row"), [name]) => match read_row(rt, name.as_str()) {
             Ok(row) => verdict(rt.alloc(), name.as_str(), &row.bytes),
             // No row is as long as that.
             Err(Refusal::Input(_, Why::LongView(_))) => {
@@ -34,7 +34,7 @@ pub fn judge(rt: &HostRuntime, args: &[String]) -> Result<Vec<u8>, Refusal> {
             }
             Err(refusal) => Err(refusal),
         },
-        Asked::Work("--bytes", [name]) => {
+        Asked::Work(Some("--bytes"), [name]) => {
             let row = read_view(rt, name.as_str())?;
             Ok(numbers(rt.alloc(), &row.bytes)?)
         }

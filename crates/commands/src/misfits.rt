@@ -3,7 +3,7 @@
 use crate::excerpts::excerpt;
 use std::alloc::{AllocError, Global};
 use std::fmt;
-use views::{Break, ByteSet, Fit, Side};
+use views::{Break, ByteSet, Side, Unfit};
 
 #[derive(Drop)]
 pub struct Misfit {
@@ -31,13 +31,10 @@ impl Misfit {
         text: &[u8],
     ) -> Result<Misfit, AllocError> {
         let view = String::from_str(heap, view)?;
-        let words = match results::lend(row.len(), text.len()) {
-            Some(lent) => lent.words,
-            None => 0,
-        };
+        let words = results::lend(row.len(), text.len()).map_or(0, |lent| lent.words);
         let mut work = vec![in heap; 0u32; words]?;
         let broken = match views::viable_prefix(row, side, text, &mut work) {
-            Fit::Breaks(place) => Some(Broken {
+            Err(Unfit::Breaks(place)) => Some(Broken {
                 place,
                 short: place.at >= text.len(),
                 excerpt: excerpt(heap, text, place.at)?,
@@ -49,10 +46,7 @@ impl Misfit {
 
     // How many bytes of the text fit.
     pub fn at(&self) -> Option<usize> {
-        match &self.broken {
-            Some(broken) => Some(broken.place.at),
-            None => None,
-        }
+        self.broken.as_ref().map(|broken| broken.place.at)
     }
 }
 
@@ -81,13 +75,7 @@ impl fmt::Display for Misfit {
 
 // What could stand at the place: few bytes by their ranges, many by those that are left out, and the end.
 fn write_expected<W: fmt::Write>(place: &Break, f: &mut fmt::Formatter<W>) -> fmt::Result {
-    let mut count: usize = 0;
-    for byte in 0..=255u8 {
-        if place.next.has(byte) {
-            count = count.saturating_add(1);
-        }
-    }
-    match count {
+    match (0..=255u8).filter(|byte| place.next.has(*byte)).count() {
         0 => return f.write_str("the end"),
         1..=128 => write_ranges(&place.next, true, f)?,
         129..=255 => {
@@ -102,7 +90,8 @@ fn write_expected<W: fmt::Write>(place: &Break, f: &mut fmt::Formatter<W>) -> fm
     Ok(())
 }
 
-// The ranges of bytes that are in the set, or of those that aren't.
+// The ranges of bytes that are in the set, or of those that aren't. The loop counts through all bytes, each of which may end
+// a range.
 fn write_ranges<W: fmt::Write>(
     set: &ByteSet,
     inside: bool,

@@ -22,10 +22,10 @@ pub fn put(rt: &HostRuntime, args: &[String]) -> Result<Vec<u8>, Refusal> {
     match read_arguments(args)? {
         Asked::Help => Ok(Vec::from_slice(rt.alloc(), HELP.as_bytes())?),
         Asked::Version => Ok(Vec::from_slice(rt.alloc(), VERSION.as_bytes())?),
-        Asked::Work("", [view, source, look]) => {
+        Asked::Work(None, [view, source, look]) => {
             changed_source(rt, view.as_str(), source.as_str(), look.as_str())
         }
-        Asked::Work("--new", [view, look]) => new_source(rt, view.as_str(), look.as_str()),
+        Asked::Work(Some("--new"), [view, look]) => new_source(rt, view.as_str(), look.as_str()),
         _ => Err(Refusal::Usage(USAGE)),
     }
 }
@@ -39,17 +39,23 @@ fn changed_source(
     let view = read_view(rt, view)?;
     let source = read_text(rt, source, view.bytes.len(), 0)?;
     let look = read_text(rt, look, view.bytes.len(), source.bytes.len())?;
-    match results::put_back(rt.alloc(), &view.bytes, &source.bytes, &look.bytes) {
-        Ok(changed) => Ok(changed),
-        Err(unmade) => Err(refusal(rt.alloc(), unmade, &view, &source, &look)),
-    }
+    results::put_back(rt.alloc(), &view.bytes, &source.bytes, &look.bytes).map_err(|unmade| refusal(
+        rt.alloc(),
+        unmade,
+        &view,
+        &source,
+        &look,
+    ))
 }
 
 fn new_source(rt: &HostRuntime, view: &str, look: &str) -> Result<Vec<u8>, Refusal> {
     let view = read_view(rt, view)?;
     let look = read_text(rt, look, view.bytes.len(), 0)?;
-    match results::made(rt.alloc(), &view.bytes, &look.bytes) {
-        Ok(source) => Ok(source),
-        Err(unmade) => Err(refusal(rt.alloc(), unmade, &view, &look, &look)),
-    }
+    results::made(rt.alloc(), &view.bytes, &look.bytes).map_err(|unmade| refusal(
+        rt.alloc(),
+        unmade,
+        &view,
+        &look,
+        &look,
+    ))
 }

@@ -1,7 +1,5 @@
 // Why a program refuses: a line for people, which begins with the input that it is about, and with the place in it where
 // there is one, so that editors can go there. What the program itself lacks begins with no input.
-ghost use Rattle.std.specs.Prelude.{◌≡◌, ◌+◌, ◌/◌, ◌%◌, if◌then◌else◌, nat_eq};
-
 use crate::misfits::Misfit;
 use crate::places::Place;
 use notation::Fault;
@@ -72,18 +70,6 @@ pub fn called(name: &str) -> &str {
     }
 }
 
-// Bytes in MiB, rounded up.
-fn mebibytes(bytes: u128) -> u128
-    ensures { result ≡ bytes / 1048576 + (if nat_eq (bytes % 1048576) 0 then 0 else 1) }
-{
-    let whole = bytes / 1_048_576;
-    if bytes % 1_048_576 == 0 {
-        whole
-    } else {
-        whole + 1
-    }
-}
-
 impl From<AllocError> for Refusal {
     fn from(_e: AllocError) -> Refusal {
         Refusal::Memory
@@ -140,7 +126,7 @@ impl fmt::Display for Why {
             ),
             Why::Misfit(misfit) => write!(f, "{misfit}"),
             Why::Large(need) => {
-                let mebibytes = mebibytes(*need);
+                let mebibytes = need.div_ceil(1024 * 1024);
                 write!(
                     f,
                     "too long: with this text {mebibytes} MiB of memory or more would be needed, and this program uses 16; pirkunna, the host's command, takes longer texts"

@@ -6,23 +6,16 @@ use std::io::Write;
 
 // The arguments behind the program's name.
 pub fn arguments(rt: &HostRuntime) -> Result<Vec<String>, Refusal> {
-    let mut args = match env::args(rt) {
-        Ok(args) => args,
-        Err(error) => return Err(Refusal::Arguments(error)),
-    };
+    let mut args = env::args(rt).map_err(Refusal::Arguments)?;
     let _ = args.next();
     Ok(args.collect(rt.alloc())?)
 }
 
 // Prints the result, all at once; or says why there is none.
 pub fn deliver(rt: &HostRuntime, res: Result<Vec<u8>, Refusal>) -> Result<(), Refusal> {
-    let refusal = match res {
-        Ok(bytes) => match rt.stdout().write_all(&bytes) {
-            Ok(()) => return Ok(()),
-            Err(error) => Refusal::Output(error),
-        },
-        Err(refusal) => refusal,
-    };
-    let _ = eprintln!(rt; "{refusal}");
-    Err(refusal)
+    let printed = res.and_then(|bytes| rt.stdout().write_all(&bytes).map_err(Refusal::Output));
+    if let Err(refusal) = &printed {
+        let _ = eprintln!(rt; "{refusal}");
+    }
+    printed
 }

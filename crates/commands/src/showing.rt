@@ -20,7 +20,7 @@ pub fn show(rt: &HostRuntime, args: &[String]) -> Result<Vec<u8>, Refusal> {
     match read_arguments(args)? {
         Asked::Help => Ok(Vec::from_slice(rt.alloc(), HELP.as_bytes())?),
         Asked::Version => Ok(Vec::from_slice(rt.alloc(), VERSION.as_bytes())?),
-        Asked::Work("", [view, source]) => look(rt, view.as_str(), source.as_str()),
+        Asked::Work(None, [view, source]) => look(rt, view.as_str(), source.as_str()),
         _ => Err(Refusal::Usage(USAGE)),
     }
 }
@@ -28,8 +28,11 @@ pub fn show(rt: &HostRuntime, args: &[String]) -> Result<Vec<u8>, Refusal> {
 fn look(rt: &HostRuntime, view: &str, source: &str) -> Result<Vec<u8>, Refusal> {
     let view = read_view(rt, view)?;
     let source = read_text(rt, source, view.bytes.len(), 0)?;
-    match results::shown(rt.alloc(), &view.bytes, &source.bytes) {
-        Ok(look) => Ok(look),
-        Err(unmade) => Err(refusal(rt.alloc(), unmade, &view, &source, &source)),
-    }
+    results::shown(rt.alloc(), &view.bytes, &source.bytes).map_err(|unmade| refusal(
+        rt.alloc(),
+        unmade,
+        &view,
+        &source,
+        &source,
+    ))
 }

@@ -1,5 +1,5 @@
 -- Each kind of node of a form and of a view, and the whole row.
-use Rattle.std.proofs.Common.{◌≡◌, ℕ, ◌+◌, ◌<◌, List, ◌++◌, length, sym, refl, ap, ◌∙◌, subst, append-nil, arith}
+use Rattle.std.proofs.Common.{◌≡◌, ℕ, ◌+◌, ◌*◌, ◌<◌, ◌≤◌, List, ◌++◌, length, slice_index, sym, refl, ap, ◌∙◌, subst, append-nil, arith}
 use lib.Seq.{drop-length}
 use Rattle.lens.specs.Forms.{Form, empty, one}
 use Rattle.lens.specs.Views.{View}
@@ -15,7 +15,7 @@ use Rattle.clear.proofs.Laying.{laid_heads}
 use Rattle.clear.proofs.Lengths.{form_long, view_long}
 use Rattle.trees.specs.declared.nodes.Node.{Node}
 use Rattle.trees.specs.declared.nodes.Node.TheVariants.{Empty, One, Seq, Or, Many, Same}
-use Rattle.trees.specs.Nodes.{node_at, Changed}
+use Rattle.trees.specs.Nodes.{node_of, node_at, Changed}
 use Rattle.trees.specs.Tree.{Grows, grows_empty, grows_one, grows_seq, grows_or, grows_many}
 use Rattle.grow.specs.Grown.{Bare, LinkedAt, Rooted, Grown, FormGrows, ViewGrows, TreeOf, swapped}
 use Rattle.grow.specs.Planted.{Planted, planted_copy, planted_then, planted_swap, planted_turned, planted_either, planted_each}
@@ -82,3 +82,7 @@ tree_grown {side} {s} {t} {t'} {top} bare g = record {
   where
     whole : (v : View) → Encodes s v → Rooted (length s) t' 0 (length s) top (λ words q. Planted words side q v)
     whole v e = (g.grown v _ (laid_row e) bare).rooted t' (λ p w. record { node = refl; up = refl })
+
+-- No node stands among zeros.
+pub bare_zeros : {t : List ℕ} {n : ℕ} → 4 * n ≤ length t → ((k : ℕ) → k < length t → slice_index t k ≡ 0) → Bare t 0 n
+bare_zeros {t} long zeros = record { none = λ p w. ap (λ kind. node_of kind (slice_index t (4 * p + 1)) (slice_index t (4 * p + 2))) (zeros (4 * p) (omega arith)) }

@@ -1,6 +1,7 @@
 // Rows of views that are hard to judge: families that grow with the bytes that they may have.
 use std::alloc::{AllocError, Global};
 
+// The format's tags as bytes, and not the notation's names for them: no notation stands between these rows and the reader.
 const THEN: u8 = 12;
 
 const SWAP: u8 = 13;

@@ -5,6 +5,7 @@
 mod families;
 
 use families::{FAMILIES, Family};
+use rows::Row;
 use std::alloc::{AllocError, Global};
 use std::time::Instant;
 use std::{env, io};
@@ -39,20 +40,20 @@ fn judge_family(rt: &HostRuntime, name: &str, family: Family, timed: bool) -> io
 fn judge(
     rt: &HostRuntime,
     name: &str,
-    row: &[u8],
+    bytes: &[u8],
     before: usize,
     timed: bool,
 ) -> io::Result<usize> {
-    let len = row.len();
-    if len > rows::MAX_ROW || !rows::is_view(row) {
+    let len = bytes.len();
+    let Some(row) = Row::of_view(bytes) else {
         println!(rt; "{name}, {len} bytes: no view")?;
         return Ok(0);
-    }
+    };
     let mut work = vec![in rt.alloc(); 0u32; 4_096 + len * len]?;
     let start = Instant::now(rt)?;
-    let verdict = clear::is_clear(row, &mut work);
+    let verdict = clear::is_clear(&row, &mut work);
     let spent = start.elapsed(rt)?.as_micros();
-    let said = if verdict.clear { "plain" } else { "unclear" };
+    let said = if verdict.yes { "plain" } else { "unclear" };
     let visited = verdict.visited;
     print!(rt; "{name}, {len} bytes: {said}, {visited} pairs")?;
     if before > 0 {

@@ -4,10 +4,7 @@
 use std::process::ExitCode;
 
 fn main(rt: HostRuntime) -> ExitCode {
-    let said = match commands::arguments(&rt) {
-        Ok(args) => commands::judge(&rt, &args),
-        Err(refusal) => Err(refusal),
-    };
+    let said = commands::arguments(&rt).and_then(|args| commands::judge(&rt, &args));
     match commands::deliver(&rt, said) {
         Ok(()) => ExitCode::SUCCESS,
         Err(_) => ExitCode::FAILURE,

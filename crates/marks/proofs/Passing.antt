@@ -1,13 +1,13 @@
 -- What a pass does to the marks, step by step.
 -- Not here: that it may go on (Places).
 use Rattle.std.proofs.Common.{◌≡◌, ℕ, ◌+◌, ◌-◌, ◌<◌, ◌≤◌, Bool, true, false, List, refl, ◌∙◌, subst, inl, inr, arith}
-use Rattle.lens.specs.Forms.{Text}
 use Rattle.trees.specs.declared.nodes.Node.{Node}
 use Rattle.trees.specs.declared.nodes.Node.TheVariants.{None, Empty, One, Seq, Or, Many, Same, Byte}
 use Rattle.trees.specs.declared.tree.Tree.{Tree}
+use Rattle.trees.specs.declared.scanned.Scanned.{Scanned}
 use Rattle.trees.specs.Nodes.{node_at, EachPart, Under, Linked}
 use Rattle.marks.specs.Cut.{Marked, Cuttable, whole, inner, series, Cut, cut_none, cut_some, cut_one, cut_byte, cut_seq, cut_left, cut_right, cut_many, cut_same, cut_stop, cut_more}
-use Rattle.marks.specs.Tables.{cell, begun}
+use Rattle.trees.specs.Cells.{cell, begun}
 use Rattle.marks.specs.Passes.{Fresh, Stays, Cuts, Adds}
 use Rattle.marks.proofs.Cuts.{cut_ordered, cut_kept, cut_kept_on}
 
@@ -64,15 +64,18 @@ each_behind n words (Many x) l u = (omega (arith, u.behind), u.below)
 each_behind n words (Same x) l u = (omega (arith, u.behind), u.below)
 each_behind n words (Byte b x) l u = (omega (arith, u.behind), u.below)
 
-module _ (tree : Tree) (text : Text) (starts : List ℕ) where
+module _ (scanned : Scanned) where
+  abbrev tree : Tree
+  tree = scanned.tree
+
   abbrev words : List ℕ
   words = tree.words.now
 
   abbrev S : ℕ → ℕ → Bool
-  S = begun tree text starts
+  S = begun scanned
 
   abbrev C : Cuttable → ℕ → List ℕ → List ℕ → ℕ → ℕ → Type 0
-  C = Cuts tree text starts
+  C = Cuts scanned
 
   pub fresh_behind : {k : Cuttable} {low i e : ℕ} {old new : List ℕ} → C k low old new i e → Fresh (cell tree new) e
   fresh_behind cuts = record { none = cuts.stays.fresh }

@@ -7,14 +7,14 @@ use Rattle.lens.specs.Forms.{Text, Form, empty, one, seq, or, many, Matches, is_
 use Rattle.trees.specs.declared.nodes.Node.{Node}
 use Rattle.trees.specs.declared.nodes.Node.TheVariants.{Empty, One, Seq, Or, Many, Same, Byte}
 use Rattle.trees.specs.declared.tree.Tree.{Tree}
+use Rattle.trees.specs.declared.scanned.Scanned.{Scanned}
 use Rattle.trees.specs.Nodes.{node_at}
 use Rattle.trees.specs.Tree.{Stack, Grows, grows_empty, grows_one, grows_seq, grows_or, grows_many, grows_same, grows_byte, Fits, Begins, At, at_first, at_second, at_left, at_right, at_many, at_same, at_byte}
-use Rattle.trees.specs.Rows.{Ready, Tabled}
 use Rattle.trees.proofs.Begins.{begins_end, fits_cons_sound, fits_cons_complete, begins_one_complete, one_not_empty, begins_seq_complete, begins_or_complete, begins_many_complete, Eats}
 use Rattle.trees.proofs.Stacks.{fits_parts_complete, fits_seq_complete}
 use Rattle.trees.proofs.Within.{at_grows}
 use Rattle.marks.specs.Cut.{Cuttable, whole, inner, series, Cut, cut_none, cut_some, cut_one, cut_byte, cut_seq, cut_left, cut_right, cut_many, cut_same, cut_stop, cut_more}
-use Rattle.marks.specs.Tables.{begun}
+use Rattle.trees.specs.Cells.{begun}
 use Rattle.marks.proofs.Tables.{begun_tells}
 
 -- What stands at a place, by its node: its form, and where the parts stand.
@@ -119,18 +119,24 @@ module _ {text : Text} where
     | inr more ↦ omega (arith, a.long, b.long)
   ]
 
-module _ {tree : Tree} {text : Text} {starts : List ℕ} (ready : Ready tree) (tabled : Tabled tree starts text 0) where
+module _ (scanned : Scanned) where
+  abbrev tree : Tree
+  tree = scanned.tree
+
+  abbrev text : Text
+  text = scanned.text.now
+
   abbrev Stands : ℕ → Form → Stack → Type 0
   Stands q f σ = At tree.words.now tree.root q f σ
 
   abbrev S : ℕ → ℕ → Bool
-  S = begun tree text starts
+  S = begun scanned
 
   pub begins_true : (i : ℕ) {q : ℕ} {f : Form} {σ : Stack} → Stands q f σ → S i q ≡ true → Begins f σ (drop i text)
-  begins_true i at s = (begun_tells tree text starts i ready tabled at).0 s
+  begins_true i at s = (begun_tells scanned i at).0 s
 
   pub begins_false : (i : ℕ) {q : ℕ} {f : Form} {σ : Stack} → Stands q f σ → S i q ≡ false → Begins f σ (drop i text) → ⊥
-  begins_false i at s b = both_ways _ s ((begun_tells tree text starts i ready tabled at).1 b)
+  begins_false i at s b = both_ways _ s ((begun_tells scanned i at).1 b)
 
   -- What a cut says of the text
   abbrev Says : Cuttable → ℕ → ℕ → Type 0

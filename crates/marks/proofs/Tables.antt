@@ -4,16 +4,16 @@ use borrow.Author.Tests.{clash}
 use Rattle.std.proofs.lemmas.Bool.Decides.{Decides-at}
 use Rattle.std.proofs.lemmas.Bool.{cases_eq, cases_lt, lt-ltb, ltb-true, le-ltb, and_left, and_right}
 use Rattle.std.proofs.lemmas.List.{drop_all}
-use Rattle.lens.specs.Forms.{Text, Form}
+use Rattle.lens.specs.Forms.{Form}
 use Rattle.bits.specs.Bits.{bit, Puts, Clears}
 use Rattle.trees.specs.declared.tree.Tree.{Tree}
+use Rattle.trees.specs.declared.scanned.Scanned.{Scanned}
 use Rattle.trees.specs.Tree.{Stack, Begins, At}
-use Rattle.trees.specs.Rows.{Ready, Tabled}
 use Rattle.trees.proofs.Decisions.{decides_false}
 use Rattle.trees.proofs.Begins.{begins_end}
 use Rattle.trees.proofs.Tables.{row_within}
-use Rattle.trees.proofs.Within.{at_within}
-use Rattle.marks.specs.Tables.{cell, begun}
+use Rattle.trees.proofs.Kept.{stands_within, tabled_of}
+use Rattle.trees.specs.Cells.{cell, begun}
 use Rattle.marks.specs.Passes.{Adds, Fresh}
 
 -- Two cells are two bits.
@@ -52,13 +52,14 @@ module _ (tree : Tree) where
   pub cleared : {old new : List ℕ} → Clears old new → Fresh (cell tree new) 0
   cleared clears = record { none = λ j p l. and_right _ _ (clears.none _) }
 
-  -- What the bits of the backward pass say.
-  pub begun_tells : (text : Text) (starts : List ℕ) (i : ℕ) {q : ℕ} {f : Form} {σ : Stack} → Ready tree → Tabled tree starts text 0 →
-      At tree.words.now tree.root q f σ → Decides (begun tree text starts i q) (Begins f σ (drop i text))
-  begun_tells text starts i {q} ready tabled at = elim (cases_lt i (length text)) [
-    | inr past ↦ Decides-at _ _ (and_left _ _ (le-ltb i (length text) past)) (decides_false (begins_end (drop_all i text past)))
-    | inl before ↦
-        Decides-at _ _
-        (and_true _ _ (lt-ltb i (length text) before) ∙ cell_is starts i q (at_within ready.linked ready.inside at).1)
-        ((tabled.rows i zero-le before).tells q _ _ zero-le at)
-  ]
+-- What the table of a scanned text says
+pub begun_tells : (scanned : Scanned) (i : ℕ) {q : ℕ} {f : Form} {σ : Stack} → At scanned.tree.words.now scanned.tree.root q f σ →
+    Decides (begun scanned i q) (Begins f σ (drop i scanned.text.now))
+begun_tells scanned i {q} at = elim (cases_lt i (length scanned.text.now)) [
+  | inr past ↦
+      Decides-at _ _ (and_left _ _ (le-ltb i (length scanned.text.now) past)) (decides_false (begins_end (drop_all i scanned.text.now past)))
+  | inl before ↦
+      Decides-at _ _
+      (and_true _ _ (lt-ltb i (length scanned.text.now) before) ∙ cell_is scanned.tree scanned.starts.now i q (stands_within scanned.tree at).1)
+      (((tabled_of scanned).rows i zero-le before).tells q _ _ zero-le at)
+]

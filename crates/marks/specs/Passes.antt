@@ -2,9 +2,10 @@
 use Rattle.std.specs.Prelude.{◌≡◌, ℕ, ◌-◌, ◌<◌, ◌≤◌, Bool, true, false, ◌≢◌, ◌⊎◌, List, ◌∷◌, length, take, drop}
 use Rattle.lens.specs.Forms.{Text, Form, many, Matches}
 use Rattle.trees.specs.declared.tree.Tree.{Tree}
+use Rattle.trees.specs.declared.scanned.Scanned.{Scanned}
 use Rattle.trees.specs.Tree.{Stack, Grows, Fits, At}
 use Rattle.marks.specs.Cut.{Cuttable, Cut}
-use Rattle.marks.specs.Tables.{begun, cell}
+use Rattle.trees.specs.Cells.{begun, cell}
 
 -- Some form stands at the root of a tree.
 pub record Grown (tree : Tree) : Type 0 where
@@ -12,20 +13,20 @@ pub record Grown (tree : Tree) : Type 0 where
   pub grows : Grows tree.words.now tree.root form
 
 -- From the place i on the text goes on with a part of the node at q.
-pub record Here (tree : Tree) (text : Text) (q i : ℕ) : Type 0 where
+pub record Here (scanned : Scanned) (q i : ℕ) : Type 0 where
   pub form : Form
   pub stack : Stack
-  pub stands : At tree.words.now tree.root q form stack
-  pub fits : Fits (form ∷ stack) (drop i text)
-  pub within : i ≤ length text
+  pub stands : At scanned.tree.words.now scanned.tree.root q form stack
+  pub fits : Fits (form ∷ stack) (drop i scanned.text.now)
+  pub within : i ≤ length scanned.text.now
 
 -- From the place i on the text goes on with any number of parts of the node at x.
-pub record HereSeries (tree : Tree) (text : Text) (x i : ℕ) : Type 0 where
+pub record HereSeries (scanned : Scanned) (x i : ℕ) : Type 0 where
   pub form : Form
   pub stack : Stack
-  pub stands : At tree.words.now tree.root x form (many form ∷ stack)
-  pub fits : Fits (many form ∷ stack) (drop i text)
-  pub within : i ≤ length text
+  pub stands : At scanned.tree.words.now scanned.tree.root x form (many form ∷ stack)
+  pub fits : Fits (many form ∷ stack) (drop i scanned.text.now)
+  pub within : i ≤ length scanned.text.now
 
 -- From i to e stands a text of the form f, and what stands behind it fits σ.
 pub record Piece (text : Text) (f : Form) (σ : Stack) (i e : ℕ) : Type 0 where
@@ -46,9 +47,9 @@ pub record Stays (low : ℕ) (old new : ℕ → ℕ → Bool) (i e : ℕ) : Type
   pub above : (j p : ℕ) → p < low → new j p ≡ old j p
 
 -- What stands at i is cut and marked up to e.
-pub record Cuts (tree : Tree) (text : Text) (starts : List ℕ) (k : Cuttable) (low : ℕ) (old new : List ℕ) (i e : ℕ) : Type 0 where
-  pub cut : Cut tree.words.now (begun tree text starts) (cell tree new) k i e
-  pub stays : Stays low (cell tree old) (cell tree new) i e
+pub record Cuts (scanned : Scanned) (k : Cuttable) (low : ℕ) (old new : List ℕ) (i e : ℕ) : Type 0 where
+  pub cut : Cut scanned.tree.words.now (begun scanned) (cell scanned.tree new) k i e
+  pub stays : Stays low (cell scanned.tree old) (cell scanned.tree new) i e
 
 -- The mark of the node q at the place i was made, and the others are as they were.
 pub record Adds (old new : ℕ → ℕ → Bool) (i q : ℕ) : Type 0 where

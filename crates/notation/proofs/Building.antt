@@ -1,5 +1,5 @@
 -- How a row under construction becomes longer. Not here: which bytes are written (specs/Built).
-use Rattle.std.proofs.Common.{◌≡◌, ℕ, ◌+◌, ◌-◌, ◌^◌, ◌≤◌, min, List, [], ◌∷◌, ◌++◌, length, take, drop, ap, ◌∙◌, ap₂, append_assoc, append-nil, arith, length-append, length-drop, take-append-drop}
+use Rattle.std.proofs.Common.{◌≡◌, ℕ, ◌+◌, ◌-◌, ◌^◌, ◌≤◌, min, List, ◌∷◌, ◌++◌, length, take, drop, ap, ◌∙◌, ap₂, append_assoc, arith, length-append, length-drop, take-append-drop}
 use Rattle.std.proofs.lemmas.List.{take_all, take_at, drop_at, take-append-le, drop-append-le}
 use Rattle.std.specs.List.{insert, between}
 use Rattle.notation.specs.Built.{Becomes}
@@ -38,9 +38,6 @@ to_end at n xs e = take_all (n - at) (drop at xs) (omega (arith, length-drop at 
 
 pub joined : {f g : List ℕ → List ℕ} {a b c : List ℕ} {k m n : ℕ} → Becomes a k b m f → Becomes b m c n g → Becomes a k c n (λ s. g (f s))
 joined p q = record { stands = λ s h. q.stands _ (p.stands s h) }
-
-pub unchanged : (a : List ℕ) (k : ℕ) → Becomes a k a k (λ s. s ++ [])
-unchanged a k = record { stands = λ s h. rw append-nil h }
 
 -- Two texts written one behind the other are one text.
 pub behind : (x y : List ℕ) {a b c : List ℕ} {k m n : ℕ} → Becomes a k b m (λ s. s ++ x) → Becomes b m c n (λ s. s ++ y) → Becomes a k c n (λ s. s ++ (x ++ y))

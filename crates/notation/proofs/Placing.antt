@@ -13,9 +13,6 @@ pub record Behind (xs : List ℕ) (line column : ℕ) : Type 0 where
   pub line_is : line ≡ counted (line_of xs)
   pub column_is : column ≡ counted (column_of xs)
 
-pub behind_none : Behind [] 1 1
-behind_none = record { line_is = refl; column_is = refl }
-
 line_push : (n : ℕ) (xs : List ℕ) (x : ℕ) → line_from n (xs ++ x ∷ []) ≡ cond (eqb x 10) (line_from n xs + 1) (line_from n xs)
 line_push n [] x = refl
 line_push n (y ∷ ys) x = line_push (cond (eqb y 10) (n + 1) n) ys x

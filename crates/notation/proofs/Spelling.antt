@@ -5,12 +5,9 @@ use Rattle.lens.specs.Forms.{one}
 use Rattle.rows.specs.Rows.{form_row}
 use Rattle.notation.specs.declared.row.Row.{Row}
 use Rattle.notation.specs.Written.{Grown, spelled}
-use Rattle.notation.proofs.Building.{behind, unchanged}
+use Rattle.notation.proofs.Building.{behind}
 
 -- ---- a row that grows at its end
-
-pub grown_none : (p : Row) → Grown p p (λ s. s ++ [])
-grown_none p = record { grows = omega arith; becomes = unchanged _ _ }
 
 pub grown_then : (x y : List ℕ) {p q r : Row} → Grown p q (λ s. s ++ x) → Grown q r (λ s. s ++ y) → Grown p r (λ s. s ++ (x ++ y))
 grown_then x y g h = record { grows = omega (arith, g.grows, h.grows); becomes = behind x y g.becomes h.becomes }
@@ -37,10 +34,6 @@ letters_last (x ∷ []) last = refl
 letters_last (x ∷ y ∷ ys) last = ap (λ r. 2 ∷ 1 ∷ x ∷ x ∷ r) (letters_last (y ∷ ys) last)
 
 -- ---- the whole literal
-
-pub spelled_none : (xs : List ℕ) → length xs ≡ 0 → 0 ∷ [] ≡ form_row (spelled xs)
-spelled_none [] e = refl
-spelled_none (x ∷ xs) e = absurd (omega arith)
 
 pub spelled_all : (xs front : List ℕ) (last i : ℕ) → xs ≡ front ++ last ∷ [] → length front ≤ i → letters (take i front) ++ form_row (one last last) ≡ form_row (spelled xs)
 spelled_all xs front last i e h =

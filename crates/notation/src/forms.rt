@@ -6,26 +6,14 @@ ghost use Rattle.notation.specs.Written.{Grown, spelled};
 ghost use Rattle.rows.specs.Rows.{form_row};
 
 use crate::row::Row;
+use crate::tags::Tag;
 use std::alloc::AllocError;
-
-pub const EMPTY: u8 = 0;
-
-pub const ONE: u8 = 1;
-
-pub const SEQ: u8 = 2;
-
-pub const OR: u8 = 3;
-
-pub const MANY: u8 = 4;
 
 // One byte from `low` to `high`.
 pub fn range(row: &mut Row, low: u8, high: u8) -> Result<(), AllocError>
     ensures { OnOk result (Grown row.old row.new (λ s. s ++ form_row (one low high))) }
 {
-    row.push(ONE)?;
-    row.push(low)?;
-    row.push(high)?;
-    Ok(())
+    row.extend(&[Tag::One as u8, low, high])
 }
 
 // The bytes, one after the other.
@@ -33,11 +21,11 @@ pub fn literal(row: &mut Row, bytes: &[u8]) -> Result<(), AllocError>
     ensures { OnOk result (Grown row.old row.new (λ s. s ++ form_row (spelled bytes.now))) }
 {
     let Some((last, front)) = bytes.split_last() else {
-        row.push(EMPTY)?;
+        row.push(Tag::Empty as u8)?;
         return Ok(());
     };
     for byte in front {
-        row.push(SEQ)?;
+        row.push(Tag::Seq as u8)?;
         range(row, *byte, *byte)?;
     }
     range(row, *last, *last)?;
@@ -51,12 +39,12 @@ pub fn more(row: &mut Row, at: usize) -> Result<(), AllocError>
 {
     let end = row.len();
     row.repeat(at)?;
-    row.tag(end, MANY)?;
-    row.tag(at, SEQ)?;
+    row.tag(end, Tag::Many as u8)?;
+    row.tag(at, Tag::Seq as u8)?;
     Ok(())
 }
 
-// One byte that is none of `bytes`, as the ranges that they leave; false if they leave none.
+// One byte that is none of `bytes`, as the ranges that they leave; false if they leave none, of which the caller says where.
 pub fn none_of(row: &mut Row, bytes: &[u8]) -> Result<bool, AllocError>
     ensures { OnOk result (row.old.total ≤ row.new.total) }
 {
@@ -67,7 +55,8 @@ pub fn none_of(row: &mut Row, bytes: &[u8]) -> Result<bool, AllocError>
     ranges(row, &left)
 }
 
-// One byte of those marked, as ranges upward; false if none is.
+// One byte of those marked, as ranges upward; false if none is. The loop counts through all bytes, each of which may end a
+// range.
 fn ranges(row: &mut Row, marked: &[bool; 256]) -> Result<bool, AllocError>
     ensures { OnOk result (row.old.total ≤ row.new.total) }
 {
@@ -80,7 +69,7 @@ fn ranges(row: &mut Row, marked: &[bool; 256]) -> Result<bool, AllocError>
             low = high.saturating_add(1);
         } else if high == 255 || !marked[usize::from(high) + 1] {
             if some {
-                row.tag(at, OR)?;
+                row.tag(at, Tag::Or as u8)?;
                 at = row.len();
             }
             range(row, low, high)?;

@@ -1,5 +1,5 @@
 // Cuts a text into tokens, one at a time. Not here: which tokens may follow which (parser).
-ghost use Rattle.std.specs.Prelude.{◌+◌, ◌-◌, ◌<◌, ◌≤◌, length, IfSome, IfOk};
+ghost use Rattle.std.specs.Prelude.{◌≡◌, ◌<◌, ◌≤◌, length, IfSome, IfOk};
 ghost use Rattle.notation.specs.Tokens.{Read, Follows, OneByte};
 
 use crate::faults::{Fault, Wrong};
@@ -46,97 +46,124 @@ pub fn next(text: &[u8], at: usize, quoted: &mut Vec<u8>) -> Result<Lexeme, Faul
             end: start,
         });
     }
+    let cursor = Cursor { text, start };
     match text[start] {
-        b'\'' => byte(text, start),
-        b'"' => quote(text, start, quoted),
-        b'.' => dots(text, start),
-        first => {
-            if is_letter(first) {
-                word(text, start)
-            } else {
-                sign(text, start)
-            }
+        b'\'' => cursor.byte(),
+        b'"' => cursor.quote(quoted),
+        b'.' => cursor.dots(),
+        first if is_letter(first) => cursor.word(),
+        first => cursor.sign(first),
+    }
+}
+
+// A text, and where in it a token begins.
+#[derive(Clone, Copy)]
+struct Cursor<'a> {
+    text: &'a [u8],
+    start: usize,
+    ghost inside: { start < length text.now },
+}
+
+impl Cursor<'_> {
+    fn sign(&self, first: u8) -> Result<Lexeme, Fault>
+        ensures { IfOk result (λ l. Read (length self.now.text.now) self.now.start l) }
+    {
+        let token = match first {
+            b'(' => Token::Open,
+            b')' => Token::Close,
+            b'|' => Token::Bar,
+            b'*' => Token::Star,
+            b'+' => Token::Plus,
+            b'?' => Token::Question,
+            _ => return Err(self.fault(Wrong::UnknownSign)),
+        };
+        Ok(self.lexeme(token, self.start + 1))
+    }
+
+    fn dots(&self) -> Result<Lexeme, Fault>
+        ensures { IfOk result (λ l. Read (length self.now.text.now) self.now.start l) }
+    {
+        match self.text.get(self.start + 1) {
+            Some(b'.') => Ok(self.lexeme(Token::Dots, self.start + 2)),
+            _ => Err(self.fault(Wrong::UnknownSign)),
         }
     }
-}
 
-fn sign(text: &[u8], start: usize) -> Result<Lexeme, Fault>
-    requires { start < length text.now }
-    ensures { IfOk result (λ l. Read (length text.now) start l) }
-{
-    let token = match text[start] {
-        b'(' => Token::Open,
-        b')' => Token::Close,
-        b'|' => Token::Bar,
-        b'*' => Token::Star,
-        b'+' => Token::Plus,
-        b'?' => Token::Question,
-        _ => return Err(Fault::new(text, start, Wrong::UnknownSign)),
-    };
-    let end = start + 1;
-    Ok(Lexeme { token, start, end })
-}
+    fn word(&self) -> Result<Lexeme, Fault>
+        ensures { IfOk result (λ l. Read (length self.now.text.now) self.now.start l) }
+    {
+        let end = word_end(self.text, self.start + 1);
+        let token = keyword(&self.text[self.start..end]).ok_or_else(|| self.fault(
+            Wrong::UnknownWord,
+        ))?;
+        Ok(self.lexeme(token, end))
+    }
 
-fn dots(text: &[u8], start: usize) -> Result<Lexeme, Fault>
-    requires { start < length text.now }
-    ensures { IfOk result (λ l. Read (length text.now) start l) }
-{
-    let second = start + 1;
-    if second < text.len() && text[second] == b'.' {
-        let end = second + 1;
-        let token = Token::Dots;
-        return Ok(Lexeme { token, start, end });
+    // A byte in single quotes.
+    fn byte(&self) -> Result<Lexeme, Fault>
+        ensures { IfOk result (λ l. Read (length self.now.text.now) self.now.start l) }
+    {
+        let first = self.start + 1;
+        if let Some(b'\'') = self.text.get(first) {
+            return Err(self.fault(Wrong::NotOneByte));
+        }
+        let one = self.quoted_byte(first)?;
+        match self.text.get(one.end) {
+            Some(b'\'') => Ok(self.lexeme(Token::Byte(one.byte), one.end + 1)),
+            Some(_) => Err(self.fault(Wrong::NotOneByte)),
+            None => Err(self.fault(Wrong::Unclosed)),
+        }
     }
-    Err(Fault::new(text, start, Wrong::UnknownSign))
-}
 
-fn word(text: &[u8], start: usize) -> Result<Lexeme, Fault>
-    requires { start < length text.now }
-    ensures { IfOk result (λ l. Read (length text.now) start l) }
-{
-    let end = word_end(text, start + 1);
-    match keyword(&text[start..end]) {
-        Some(token) => Ok(Lexeme { token, start, end }),
-        None => Err(Fault::new(text, start, Wrong::UnknownWord)),
+    // A text in double quotes.
+    fn quote(&self, quoted: &mut Vec<u8>) -> Result<Lexeme, Fault>
+        ensures { IfOk result (λ l. Read (length self.now.text.now) self.now.start l) }
+    {
+        quoted.clear();
+        let mut at = self.start + 1;
+        while self.text.get(at) != Some(&b'"') {
+            let one = self.quoted_byte(at)?;
+            quoted.push(one.byte)?;
+            at = one.end;
+        }
+        Ok(self.lexeme(Token::Text, at + 1))
     }
-}
 
-// A byte in single quotes.
-fn byte(text: &[u8], start: usize) -> Result<Lexeme, Fault>
-    requires { start < length text.now }
-    ensures { IfOk result (λ l. Read (length text.now) start l) }
-{
-    let first = start + 1;
-    if first < text.len() && text[first] == b'\'' {
-        return Err(Fault::new(text, start, Wrong::NotOneByte));
+    // The byte at `at`, inside the quotes that open here.
+    fn quoted_byte(&self, at: usize) -> Result<One, Fault>
+        ensures { IfOk result (λ one. OneByte (length self.now.text.now) at one) }
+    {
+        match self.text.get(at) {
+            None => Err(self.fault(Wrong::Unclosed)),
+            Some(b'\n') => Err(Fault::new(self.text, at, Wrong::NewlineInQuotes)),
+            Some(b'\\') => {
+                let wrong = || Fault::new(self.text, at, Wrong::BadEscape);
+                escaped(self.text, at + 1).ok_or_else(wrong)
+            }
+            Some(byte) => Ok(One {
+                byte: *byte,
+                end: at + 1,
+            }),
+        }
     }
-    let one = quoted_byte(text, start, first)?;
-    if one.end >= text.len() {
-        return Err(Fault::new(text, start, Wrong::Unclosed));
-    }
-    if text[one.end] != b'\'' {
-        return Err(Fault::new(text, start, Wrong::NotOneByte));
-    }
-    let end = one.end + 1;
-    let token = Token::Byte(one.byte);
-    Ok(Lexeme { token, start, end })
-}
 
-// A text in double quotes.
-fn quote(text: &[u8], start: usize, quoted: &mut Vec<u8>) -> Result<Lexeme, Fault>
-    requires { start < length text.now }
-    ensures { IfOk result (λ l. Read (length text.now) start l) }
-{
-    quoted.clear();
-    let mut at = start + 1;
-    while at >= text.len() || text[at] != b'"' {
-        let one = quoted_byte(text, start, at)?;
-        quoted.push(one.byte)?;
-        at = one.end;
+    // The token that begins here and ends there.
+    fn lexeme(&self, token: Token, end: usize) -> Lexeme
+        ensures token { result.token ≡ token }
+        ensures begins { result.start ≡ self.now.start }
+        ensures ends { result.«end» ≡ «end» }
+    {
+        Lexeme {
+            token,
+            start: self.start,
+            end,
+        }
     }
-    let end = at + 1;
-    let token = Token::Text;
-    Ok(Lexeme { token, start, end })
+
+    // What is wrong with the token that begins here.
+    fn fault(&self, wrong: Wrong) -> Fault {
+        Fault::new(self.text, self.start, wrong)
+    }
 }
 
 // A byte that quotes hold, and where its notation ends.
@@ -146,54 +173,30 @@ struct One {
     end: usize,
 }
 
-// The byte at `at`, inside the quotes that open at `open`.
-fn quoted_byte(text: &[u8], open: usize, at: usize) -> Result<One, Fault>
-    ensures { IfOk result (λ one. OneByte (length text.now) at one) }
-{
-    if at >= text.len() {
-        return Err(Fault::new(text, open, Wrong::Unclosed));
-    }
-    match text[at] {
-        b'\n' => Err(Fault::new(text, at, Wrong::NewlineInQuotes)),
-        b'\\' => match escaped(text, at + 1) {
-            Some(one) => Ok(one),
-            None => Err(Fault::new(text, at, Wrong::BadEscape)),
-        },
-        byte => Ok(One { byte, end: at + 1 }),
-    }
-}
-
 // The byte that an escape stands for, of which `at` is behind the backslash.
 fn escaped(text: &[u8], at: usize) -> Option<One>
     ensures { IfSome result (λ one. OneByte (length text.now) at one) }
 {
-    if at >= text.len() {
-        return None;
-    }
-    let end = at + 1;
-    match text[at] {
-        b'n' => Some(One { byte: b'\n', end }),
-        b't' => Some(One { byte: b'\t', end }),
-        b'r' => Some(One { byte: b'\r', end }),
-        b'x' => hex_byte(text, end),
-        b'\\' => Some(One { byte: b'\\', end }),
-        b'\'' => Some(One { byte: b'\'', end }),
-        b'"' => Some(One { byte: b'"', end }),
-        _ => None,
-    }
+    let byte = match *text.get(at)? {
+        b'n' => b'\n',
+        b't' => b'\t',
+        b'r' => b'\r',
+        b'x' => return hex_byte(text, at + 1),
+        b'\\' => b'\\',
+        b'\'' => b'\'',
+        b'"' => b'"',
+        _ => return None,
+    };
+    Some(One { byte, end: at + 1 })
 }
 
 // The byte of the two hex digits at `at`.
 fn hex_byte(text: &[u8], at: usize) -> Option<One>
     ensures { IfSome result (λ one. OneByte (length text.now) at one) }
 {
-    if at >= text.len() || text.len() - at < 2 {
-        return None;
-    }
-    let high = hex_digit(text[at])?;
-    let low = hex_digit(text[at + 1])?;
+    let [high, low] = text.get(at..)?.first_chunk::<2>()?;
     Some(One {
-        byte: high * 16 + low,
+        byte: hex_digit(*high)? * 16 + hex_digit(*low)?,
         end: at + 2,
     })
 }
@@ -210,33 +213,34 @@ fn hex_digit(byte: u8) -> Option<u8>
 }
 
 // Where the white space and the comments at `at` end.
-fn space_end(text: &[u8], mut at: usize) -> usize
+fn space_end(text: &[u8], at: usize) -> usize
     ensures { at ≤ result }
 {
     let mut comment = false;
-    while at < text.len() {
-        match text[at] {
+    for end in at..text.len() {
+        match text[end] {
             b'\n' => comment = false,
             b'#' => comment = true,
             b' ' | b'\t' | b'\r' => {}
             _ if comment => {}
-            _ => break,
+            _ => return end,
         }
-        at += 1;
     }
-    at
+    text.len().max(at)
 }
 
 // Where the word ends that goes on at `at`.
-fn word_end(text: &[u8], mut at: usize) -> usize
+fn word_end(text: &[u8], at: usize) -> usize
     requires { at ≤ length text.now }
     ensures from { at ≤ result }
     ensures within { result ≤ length text.now }
 {
-    while at < text.len() && is_word_byte(text[at]) {
-        at += 1;
+    for end in at..text.len() {
+        if !is_word_byte(text[end]) {
+            return end;
+        }
     }
-    at
+    text.len()
 }
 
 fn is_letter(byte: u8) -> bool {

@@ -37,6 +37,7 @@ mod forms;
 mod lexer;
 mod parser;
 mod row;
+mod tags;
 
 pub use faults::{Fault, Wrong};
 use std::alloc::Global;

@@ -5,25 +5,13 @@ ghost use Rattle.std.specs.Prelude.{◌≡◌, ◌+◌, ◌≤◌, IfOk, OnOk};
 ghost use Rattle.notation.specs.Progress.{Goes, Reads, Steps, Signs};
 
 use crate::faults::{Fault, Wrong};
-use crate::forms::{EMPTY, MANY, OR, SEQ};
 use crate::lexer::{Lexeme, Token};
 use crate::row::Row;
+use crate::tags::Tag;
 use crate::{forms, lexer};
 use std::alloc::Global;
 
 const MAX_DEPTH: usize = 200;
-
-const COPY: u8 = 10;
-
-const HIDE: u8 = 11;
-
-const THEN: u8 = 12;
-
-const SWAP: u8 = 13;
-
-const EITHER: u8 = 14;
-
-const EACH: u8 = 15;
 
 #[derive(Drop)]
 struct Parser<'a> {
@@ -49,10 +37,10 @@ pub fn read(heap: Global, text: &[u8]) -> Result<Vec<u8>, Fault> {
     if parser.ahead.token != Token::End {
         return Err(parser.fault(Wrong::NoEnd));
     }
-    match parser.row.whole() {
-        Ok(bytes) => Ok(bytes),
-        Err(total) => Err(Fault::whole(Wrong::RowTooLong(total))),
-    }
+    parser
+        .row
+        .whole()
+        .map_err(|total| Fault::whole(Wrong::RowTooLong(total)))
 }
 
 impl Parser<'_> {
@@ -82,10 +70,9 @@ impl Parser<'_> {
     fn deeper(&self, depth: usize) -> Result<usize, Fault>
         ensures { IfOk result (λ d. d + 1 ≡ depth) }
     {
-        if depth == 0 {
-            return Err(self.fault(Wrong::TooDeep));
-        }
-        Ok(depth - 1)
+        depth
+            .checked_sub(1)
+            .ok_or_else(|| self.fault(Wrong::TooDeep))
     }
 
     #[cycle(views)]
@@ -95,7 +82,7 @@ impl Parser<'_> {
         let mut at = self.row.len();
         self.series(depth)?;
         while self.ahead.token == Token::Bar {
-            self.row.tag(at, EITHER)?;
+            self.row.tag(at, Tag::Either as u8)?;
             at = self.row.len();
             self.advance()?;
             self.series(depth)?;
@@ -110,7 +97,7 @@ impl Parser<'_> {
         let mut at = self.row.len();
         self.item(depth)?;
         while begins_item(self.ahead.token) {
-            self.row.tag(at, THEN)?;
+            self.row.tag(at, Tag::Then as u8)?;
             at = self.row.len();
             self.item(depth)?;
         }
@@ -136,7 +123,7 @@ impl Parser<'_> {
         ensures { OnOk result (Reads self.old self.new) }
     {
         self.advance()?;
-        self.row.push(COPY)?;
+        self.row.push(Tag::Copy as u8)?;
         self.repeat(depth)
     }
 
@@ -144,7 +131,7 @@ impl Parser<'_> {
         ensures { OnOk result (Reads self.old self.new) }
     {
         self.advance()?;
-        self.row.push(HIDE)?;
+        self.row.push(Tag::Hide as u8)?;
         self.repeat(depth)?;
         if self.ahead.token == Token::As {
             self.advance()?;
@@ -162,7 +149,7 @@ impl Parser<'_> {
     {
         let depth = self.deeper(depth)?;
         self.advance()?;
-        self.row.push(SWAP)?;
+        self.row.push(Tag::Swap as u8)?;
         self.item(depth)?;
         self.item(depth)
     }
@@ -173,14 +160,14 @@ impl Parser<'_> {
     {
         let depth = self.deeper(depth)?;
         self.advance()?;
-        self.row.push(EACH)?;
+        self.row.push(Tag::Each as u8)?;
         self.item(depth)
     }
 
     fn literal_item(&mut self) -> Result<(), Fault>
         ensures { OnOk result (Steps self.old self.new) }
     {
-        self.row.push(COPY)?;
+        self.row.push(Tag::Copy as u8)?;
         self.literal()
     }
 
@@ -202,14 +189,14 @@ impl Parser<'_> {
             return Err(self.fault(Wrong::NoText));
         }
         let length = self.quoted.len();
-        let Ok(byte) = u8::try_from(length) else {
-            return Err(self.fault(Wrong::TextTooLong(length)));
-        };
+        let byte = u8::try_from(length).map_err(|_| self.fault(Wrong::TextTooLong(length)))?;
         self.row.push(byte)?;
         self.row.extend(&self.quoted)?;
         self.advance()
     }
 
+    // `form` and `branch` go as `view` and `series` do. One function for two of them would be told at each step which of the two
+    // it is, and would make one cycle of calls of what are two: a view reads forms, and no form reads a view.
     #[cycle(forms)]
     fn form(&mut self, depth: usize) -> Result<(), Fault>
         ensures { OnOk result (Reads self.old self.new) }
@@ -217,7 +204,7 @@ impl Parser<'_> {
         let mut at = self.row.len();
         self.branch(depth)?;
         while self.ahead.token == Token::Bar {
-            self.row.tag(at, OR)?;
+            self.row.tag(at, Tag::Or as u8)?;
             at = self.row.len();
             self.advance()?;
             self.branch(depth)?;
@@ -232,7 +219,7 @@ impl Parser<'_> {
         let mut at = self.row.len();
         self.repeat(depth)?;
         while begins_atom(self.ahead.token) {
-            self.row.tag(at, SEQ)?;
+            self.row.tag(at, Tag::Seq as u8)?;
             at = self.row.len();
             self.repeat(depth)?;
         }
@@ -249,17 +236,17 @@ impl Parser<'_> {
         Ok(())
     }
 
-    // Reads one of * + ? behind the form that begins at `at`; false if none is ahead.
+    // Reads one of * + ? behind the form that begins at `at`; false if none is ahead, which refuses nothing.
     fn sign(&mut self, at: usize) -> Result<bool, Fault>
         requires { at ≤ self.old.row.total }
         ensures { IfOk result (λ more. Signs self.old self.new more) }
     {
         match self.ahead.token {
-            Token::Star => self.row.tag(at, MANY)?,
+            Token::Star => self.row.tag(at, Tag::Many as u8)?,
             Token::Plus => forms::more(&mut self.row, at)?,
             Token::Question => {
-                self.row.tag(at, OR)?;
-                self.row.push(EMPTY)?;
+                self.row.tag(at, Tag::Or as u8)?;
+                self.row.push(Tag::Empty as u8)?;
             }
             _ => return Ok(false),
         }

@@ -1,8 +1,7 @@
 // The row that a notation becomes, written from its front to its end, with tags put in before parts that
 // already stand. It stores a row of at most 1,024 bytes; of a longer one it only keeps the length, so that
 // a long text costs no more than its reading. Not here: what the bytes mean (forms).
-ghost use Rattle.std.specs.Prelude.{◌≡◌, ℕ, ◌<◌, ◌≤◌, List, [], ◌∷◌, ◌++◌, drop, vec_len, MatchResult, OnOk};
-ghost use Rattle.notation.specs.Built.{Becomes};
+ghost use Rattle.std.specs.Prelude.{◌≡◌, ◌<◌, ◌≤◌, [], ◌∷◌, ◌++◌, drop, vec_len, MatchResult, OnOk};
 ghost use Rattle.std.specs.List.{insert};
 
 use std::alloc::{AllocError, Global};
@@ -13,12 +12,15 @@ pub const LONGEST: usize = 1024;
 pub struct Row {
     // The row, as long as it has its place; past that, nothing of use.
     bytes: Vec<u8>,
-    // How long the row is, or usize::MAX if it is longer than that.
+    // How long the row is, or usize::MAX if it is longer than that. Not the length of `bytes`: a row past LONGEST is only
+    // counted. An enum of the two cases would ask each method below what to do in three, where they now ask once.
     total: usize,
     ghost whole: { total ≤ 1024 → vec_len bytes ≡ total },
 }
 
 impl Row {
+    ghost use Rattle.notation.specs.Written.{Grown};
+
     pub fn new(heap: Global) -> Row
         ensures { (result.bytes.items ≡ []) × (result.total ≡ 0) }
     {
@@ -35,8 +37,7 @@ impl Row {
     }
 
     pub fn push(&mut self, byte: u8) -> Result<(), AllocError>
-        ensures grows { OnOk result (self.old.total ≤ self.new.total) }
-        ensures becomes { OnOk result (Becomes self.old.bytes.items self.old.total self.new.bytes.items self.new.total (λ s. s ++ byte ∷ [])) }
+        ensures { OnOk result (Grown self.old self.new (λ s. s ++ byte ∷ [])) }
     {
         let total = self.total.saturating_add(1);
         if total <= LONGEST {
@@ -49,8 +50,7 @@ impl Row {
     // Puts a tag before the part that begins at `at`.
     pub fn tag(&mut self, at: usize, tag: u8) -> Result<(), AllocError>
         requires { at ≤ self.old.total }
-        ensures grows { OnOk result (self.old.total ≤ self.new.total) }
-        ensures becomes { OnOk result (Becomes self.old.bytes.items self.old.total self.new.bytes.items self.new.total (λ s. insert s at tag)) }
+        ensures { OnOk result (Grown self.old self.new (λ s. insert s at tag)) }
     {
         let total = self.total.saturating_add(1);
         if total <= LONGEST {
@@ -61,8 +61,7 @@ impl Row {
     }
 
     pub fn extend(&mut self, more: &[u8]) -> Result<(), AllocError>
-        ensures grows { OnOk result (self.old.total ≤ self.new.total) }
-        ensures becomes { OnOk result (Becomes self.old.bytes.items self.old.total self.new.bytes.items self.new.total (λ s. s ++ more.now)) }
+        ensures { OnOk result (Grown self.old self.new (λ s. s ++ more.now)) }
     {
         let total = self.total.saturating_add(more.len());
         if total <= LONGEST {
@@ -75,8 +74,7 @@ impl Row {
     // Writes the part that begins at `at` once more, behind itself.
     pub fn repeat(&mut self, at: usize) -> Result<(), AllocError>
         requires { at ≤ self.old.total }
-        ensures grows { OnOk result (self.old.total ≤ self.new.total) }
-        ensures becomes { OnOk result (Becomes self.old.bytes.items self.old.total self.new.bytes.items self.new.total (λ s. s ++ drop at s)) }
+        ensures { OnOk result (Grown self.old self.new (λ s. s ++ drop at s)) }
     {
         let total = self.total.saturating_add(self.total - at);
         if total <= LONGEST {

@@ -7,9 +7,9 @@ use Rattle.automata.specs.Coded.{coded, Edge, Inner}
 use Rattle.automata.proofs.Coded.{coded_sound, coded_complete}
 use Rattle.bits.specs.Bits.{bit}
 use Rattle.pairs.specs.Marks.{Only, Enters}
-use Rattle.pairs.specs.Pairs.{stopped}
-use Rattle.pairs.specs.Table.{shape_at, Bounded}
-use Rattle.pairs.proofs.Edges.{bounded_stays, stays_inner}
+use Rattle.pairs.specs.Pairs.{stopped, Stays}
+use Rattle.pairs.specs.Table.{shape_at}
+use Rattle.pairs.proofs.Edges.{stays_inner}
 use Rattle.pairs.proofs.Meeting.{reached_below, closed_decides}
 use Rattle.reach.specs.Closed.{Closed}
 use Rattle.reach.specs.Reach.{Reach}
@@ -53,12 +53,12 @@ module _ (n : ℕ) (before after : ℕ → Shape ℕ) (inner_before : Inner n be
 -- The answer of `crosses`, which looks at the node k after a search from the node `start` alone, and one from the
 -- entries behind the middle.
 pub crosses_decided : (n : ℕ) (table : List ℕ) (i m e start k : ℕ) {seen seen' entered entered' : List ℕ} {v w : ℕ} (answer : Bool) →
-    Bounded n table → i < n → m < n → e < n → start ≡ coded n (i, i) → k ≡ coded n (e, e) → Only seen start →
+    Stays n table → i < n → m < n → e < n → start ≡ coded n (i, i) → k ≡ coded n (e, e) → Only seen start →
     Closed (Edge n (stopped table m)) (n * n) seen seen' v → Enters n (stopped table m) m seen' n entered →
     Closed (Edge n (stopped table e)) (n * n) entered entered' w → answer ≡ bit entered' k →
     Decides answer (Crosses (λ s. eqb s m) (λ s. eqb s e) (shape_at table) i m e)
-crosses_decided n table i m e start k answer bounded li lm le at_start at_k only closed enters last is =
-    let inner : (stop : ℕ) → Inner n (stopped table stop) = λ stop. stays_inner n table stop (bounded_stays bounded) in
+crosses_decided n table i m e start k answer stays li lm le at_start at_k only closed enters last is =
+    let inner : (stop : ℕ) → Inner n (stopped table stop) = λ stop. stays_inner n table stop stays in
     let only' : Only _ (coded n (i, i)) = rw at_start at only in
     Decides-at answer _ (rw at_k at is)
     (crossed_decides n (stopped table m) (stopped table e) (inner m) (inner e) i m e li lm le only' closed enters last)

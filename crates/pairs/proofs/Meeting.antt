@@ -7,10 +7,10 @@ use Rattle.automata.specs.Coded.{coded, Below, Edge, Inner}
 use Rattle.automata.proofs.Coded.{move_below, coded_sound, coded_complete}
 use Rattle.bits.specs.Bits.{bit}
 use Rattle.pairs.specs.Marks.{Only}
-use Rattle.pairs.specs.Pairs.{stopped}
+use Rattle.pairs.specs.Pairs.{stopped, Stays}
 use Rattle.pairs.specs.Room.{pair_words}
-use Rattle.pairs.specs.Table.{shape_at, Bounded}
-use Rattle.pairs.proofs.Edges.{bounded_stays, stays_inner}
+use Rattle.pairs.specs.Table.{shape_at}
+use Rattle.pairs.proofs.Edges.{stays_inner}
 use Rattle.reach.specs.Closed.{Closed}
 use Rattle.reach.specs.Reach.{Reach, here, step}
 use Rattle.std.proofs.lemmas.Bool.Decides.{Decides-at}
@@ -46,10 +46,10 @@ module _ (n : ℕ) (shape : ℕ → Shape ℕ) (inner : Inner n shape) where
 
 -- The answer of `meets`, which looks at the node k after a search from the node `start` alone.
 pub meets_decided : (n : ℕ) (table : List ℕ) (p q e start k : ℕ) {seen seen' : List ℕ} {v : ℕ} (answer : Bool) →
-    Bounded n table → p < n → q < n → e < n → start ≡ coded n (p, q) → k ≡ coded n (e, e) → Only seen start →
+    Stays n table → p < n → q < n → e < n → start ≡ coded n (p, q) → k ≡ coded n (e, e) → Only seen start →
     Closed (Edge n (stopped table e)) (n * n) seen seen' v → answer ≡ bit seen' k →
     Decides answer (Meets (λ s. eqb s e) (shape_at table) p q e)
-meets_decided n table p q e start k answer bounded lp lq le at_start at_k only closed is =
-    let inner = stays_inner n table e (bounded_stays bounded) in
+meets_decided n table p q e start k answer stays lp lq le at_start at_k only closed is =
+    let inner = stays_inner n table e stays in
     let only' : Only _ (coded n (p, q)) = rw at_start at only in
     Decides-at answer _ (rw at_k at is) (closed_decides n (stopped table e) inner (p, q) (e, e) (lp, lq) (le, le) only' closed)

@@ -1,5 +1,6 @@
 -- An automaton in lent words: four words a state, a kind and what belongs to it.
-use Rattle.std.specs.Prelude.{◌≡◌, ℕ, ◌+◌, ◌*◌, ◌<◌, cond, List, ◌==◌, ◌≢◌, slice_index}
+use Rattle.std.specs.Prelude.{◌≡◌, ℕ, ◌<◌, cond, List, ◌==◌, ◌≢◌, slice_index}
+use Rattle.records.specs.Records.{record_at}
 use Rattle.automata.specs.Automaton.{Shape, stop, to, fork, leaf, Targets}
 use Rattle.pairs.specs.declared.table.Step.{Step}
 use Rattle.pairs.specs.declared.table.Step.TheVariants.{Stop, To, Fork, Leaf}
@@ -9,9 +10,12 @@ use Rattle.pairs.specs.declared.table.Step.TheVariants.{Stop, To, Fork, Leaf}
 abbrev pub shape_of : ℕ → ℕ → ℕ → ℕ → Shape ℕ
 shape_of kind x y z = cond (kind == 1) (to x) (cond (kind == 2) (fork x y) (cond (kind == 3) (leaf x y z) stop))
 
+abbrev pub shape_of_words : List ℕ → Shape ℕ
+shape_of_words w = shape_of (slice_index w 0) (slice_index w 1) (slice_index w 2) (slice_index w 3)
+
 -- What the state p does, by the table t. States past the end of the table stop.
 abbrev pub shape_at : List ℕ → ℕ → Shape ℕ
-shape_at t p = shape_of (slice_index t (4 * p)) (slice_index t (4 * p + 1)) (slice_index t (4 * p + 2)) (slice_index t (4 * p + 3))
+shape_at t p = shape_of_words (record_at t p)
 
 -- A step of the code, as a shape.
 abbrev pub shape : Step → Shape ℕ

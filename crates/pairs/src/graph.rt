@@ -1,47 +1,50 @@
 // The pairs of states as a graph: the pair of `first` and `second` is the node first * states + second, and its edges
 // are the moves of two runs side by side.
+// A state is a word of the table or a place that a caller counts, so each contract says its bound, and no type does.
 ghost use Rattle.std.specs.Prelude.{◌≡◌, ℕ, ◌+◌, ◌*◌, ◌^◌, ◌<◌, ◌≤◌};
+ghost use Rattle.std.proofs.Common.{rules};
 ghost use Rattle.automata.specs.Automaton.{stop};
 ghost use Rattle.automata.specs.Coded.{coded, Edge};
-ghost use Rattle.pairs.specs.Pairs.{stopped, Stays, numbered, listed};
+ghost use Rattle.pairs.specs.Pairs.{stopped, numbered, listed};
 ghost use Rattle.pairs.specs.Table.{shape};
 
-use crate::table::{Step, step_at};
+use crate::automaton::Automaton;
+use crate::table::Step;
 use reach::{Graph, Moves};
 
 #[derive(Drop)]
 pub(crate) struct Pairs<'a> {
-    pub table: &'a [u32],
-    pub states: usize,
+    pub automaton: Automaton<'a>,
     // The state at which both runs stop, whatever the table says.
     pub end: usize,
-    ghost few: { states ≤ 1025 },
-    ghost stays: { Stays states table.now },
+    ghost few: { automaton.states ≤ 1025 },
 }
 
 impl<'a> Graph for Pairs<'a> {
-    ghost edge = { λ g. Edge g.states (stopped g.table.now g.«end») };
+    ghost edge = { λ g. Edge g.automaton.states (stopped g.automaton.table.now g.«end») };
 
-    ghost nodes = { λ g. g.states * g.states };
+    ghost nodes = { λ g. g.automaton.states * g.automaton.states };
+
+    ghost few = { λ g. Prim.search rules };
 
     fn size(&self) -> usize {
-        self.states * self.states
+        self.automaton.states * self.automaton.states
     }
 
     fn moves(&self, node: usize) -> Moves {
-        self.moves_of(node / self.states, node % self.states)
+        self.moves_of(node / self.automaton.states, node % self.automaton.states)
     }
 }
 
 impl<'a> Pairs<'a> {
     // What a state does; the end stops.
     pub fn step(&self, state: usize) -> Step
-        ensures { shape result ≡ stopped self.now.table.now self.now.«end» state }
+        ensures { shape result ≡ stopped self.now.automaton.table.now self.now.«end» state }
     {
         if state == self.end {
             Step::Stop
         } else {
-            step_at(self.table, state)
+            self.automaton.step(state)
         }
     }
 
@@ -49,9 +52,9 @@ impl<'a> Pairs<'a> {
     pub fn node(&self, first: usize, second: usize) -> usize
         requires first_small { first < 2 ^ 32 }
         requires second_small { second < 2 ^ 32 }
-        ensures { result ≡ coded self.now.states (first, second) }
+        ensures { result ≡ coded self.now.automaton.states (first, second) }
     {
-        first * self.states + second
+        first * self.automaton.states + second
     }
 
     // Where a pair moves: the first run without a byte as long as it can; then, while it waits, the second one; then
@@ -59,7 +62,7 @@ impl<'a> Pairs<'a> {
     fn moves_of(&self, first: usize, second: usize) -> Moves
         requires first_small { first < 2 ^ 32 }
         requires second_small { second < 2 ^ 32 }
-        ensures { listed result ≡ numbered self.now.states first second (stopped self.now.table.now self.now.«end» first) (stopped self.now.table.now self.now.«end» second) }
+        ensures { listed result ≡ numbered self.now.automaton.states first second (stopped self.now.automaton.table.now self.now.«end» first) (stopped self.now.automaton.table.now self.now.«end» second) }
     {
         match self.step(first) {
             Step::Stop => self.follow(first, self.step(second)),
@@ -86,7 +89,7 @@ impl<'a> Pairs<'a> {
     // Where a pair moves whose first run waits: the second one without a byte.
     fn follow(&self, first: usize, step: Step) -> Moves
         requires small { first < 2 ^ 32 }
-        ensures { (second : ℕ) → listed result ≡ numbered self.now.states first second stop (shape step) }
+        ensures { (second : ℕ) → listed result ≡ numbered self.now.automaton.states first second stop (shape step) }
     {
         match step {
             Step::Stop => Moves::None,

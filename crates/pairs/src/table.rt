@@ -1,6 +1,8 @@
 // The table of an automaton: four words a state, a kind and what belongs to it.
-ghost use Rattle.std.specs.Prelude.{◌≡◌, ◌+◌, ◌*◌, ◌<◌, length, slice_index};
-ghost use Rattle.pairs.specs.Table.{shape_at, shape, Changed};
+ghost use Rattle.std.specs.Prelude.{◌≡◌, ◌+◌, ◌*◌, ◌<◌, length};
+ghost use Rattle.pairs.specs.Table.{shape_of_words, shape_at, shape, Changed};
+
+use records::{put_record, record_at};
 
 // What a state does: nothing more; go on at a state; at one of two; or read a byte from the first number to the
 // second, and go on at the third.
@@ -12,31 +14,39 @@ pub enum Step {
     Leaf(u32, u32, u32),
 }
 
+// A kind, and what belongs to it; any other kind stops. The words are lent, so a kind is a number there.
+impl From<[u32; 4]> for Step {
+    ghost from_gives = { λ words step. shape step ≡ shape_of_words words };
+
+    fn from(words: [u32; 4]) -> Self {
+        let [kind, first, second, third] = words;
+        match kind {
+            1 => Step::To(first),
+            2 => Step::Fork(first, second),
+            3 => Step::Leaf(first, second, third),
+            _ => Step::Stop,
+        }
+    }
+}
+
+impl From<Step> for [u32; 4] {
+    ghost from_gives = { λ step words. shape_of_words words ≡ shape step };
+
+    fn from(step: Step) -> Self {
+        match step {
+            Step::Stop => [0, 0, 0, 0],
+            Step::To(next) => [1, next, 0, 0],
+            Step::Fork(one, other) => [2, one, other, 0],
+            Step::Leaf(low, high, next) => [3, low, high, next],
+        }
+    }
+}
+
 // What the state does; past the end of the table it stops.
 pub fn step_at(table: &[u32], state: usize) -> Step
     ensures { shape result ≡ shape_at table.now state }
 {
-    if state > table.len() / 4 {
-        return Step::Stop;
-    }
-    let at = 4 * state;
-    match word_at(table, at) {
-        1 => Step::To(word_at(table, at + 1)),
-        2 => Step::Fork(word_at(table, at + 1), word_at(table, at + 2)),
-        3 => Step::Leaf(
-            word_at(table, at + 1),
-            word_at(table, at + 2),
-            word_at(table, at + 3),
-        ),
-        _ => Step::Stop,
-    }
-}
-
-// A word of the table; past its end they are 0.
-fn word_at(table: &[u32], at: usize) -> u32
-    ensures { result ≡ slice_index table.now at }
-{
-    if at < table.len() { table[at] } else { 0 }
+    Step::from(record_at(table, state))
 }
 
 // Says what the state does from now on.
@@ -44,15 +54,5 @@ pub fn put_step(table: &mut [u32], state: usize, step: Step)
     requires inside { 4 * state + 3 < length table.old }
     ensures { Changed table.old table.new state (shape step) }
 {
-    let at = 4 * state;
-    let (kind, first, second, third) = match step {
-        Step::Stop => (0, 0, 0, 0),
-        Step::To(next) => (1, next, 0, 0),
-        Step::Fork(one, other) => (2, one, other, 0),
-        Step::Leaf(low, high, next) => (3, low, high, next),
-    };
-    table[at] = kind;
-    table[at + 1] = first;
-    table[at + 2] = second;
-    table[at + 3] = third;
+    put_record(table, state, step.into());
 }

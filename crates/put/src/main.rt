@@ -4,10 +4,7 @@
 use std::process::ExitCode;
 
 fn main(rt: HostRuntime) -> ExitCode {
-    let source = match commands::arguments(&rt) {
-        Ok(args) => commands::put(&rt, &args),
-        Err(refusal) => Err(refusal),
-    };
+    let source = commands::arguments(&rt).and_then(|args| commands::put(&rt, &args));
     match commands::deliver(&rt, source) {
         Ok(()) => ExitCode::SUCCESS,
         Err(_) => ExitCode::FAILURE,

@@ -1,13 +1,14 @@
 -- Where a walk over a source and a look goes on: at the parts of a view, which stand behind it in the row.
-use Rattle.std.proofs.Common.{◌≡◌, ℕ, ◌<◌, ◌≤◌, true, false, List, length, sym, arith}
+use Rattle.std.proofs.Common.{◌≡◌, ℕ, ◌<◌, true, false, List, length, sym, arith}
 use Rattle.lens.specs.Views.{View}
 use Rattle.rows.specs.Nodes.{Tagged}
 use Rattle.walk.specs.declared.cut_text.CutText.{CutText}
-use Rattle.walk.specs.CutWalks.{Ends, other_part, Takes, CutWalks}
+use Rattle.walk.specs.Walks.{Ends, other_part, Takes, CutWalks}
 use Rattle.walk.proofs.Descending.{then_two, swap_two, either_two, first_walks}
-use Rattle.walk.proofs.Going.{two_behind, choice_inside}
-use Rattle.put_back.specs.declared.span.Span.{Span}
-use Rattle.put_back.specs.Pairs.{Pair, before, after, WalkBoth, WalksBoth, SeriesBoth, SomeSeriesBoth, NextBoth, SomeNext}
+use Rattle.walk.proofs.Going.{two_behind}
+use Rattle.walk.specs.declared.span.Span.{Span}
+use Rattle.walk.specs.Spans.{before, after}
+use Rattle.put_back.specs.Pairs.{Pair, WalkBoth, WalksBoth, SeriesBoth, SomeSeriesBoth, NextBoth, SomeNext}
 use Rattle.put_back.proofs.Descending.{then_both, swap_both, source_left, source_right, look_left, look_right, each_both}
 use Rattle.put_back.proofs.Joining.{moved}
 
@@ -47,9 +48,6 @@ module _ {row : List ℕ} {source look : CutText} (pair : Pair source look) {pla
 
   -- One or the other
   module _ (tag : Tagged row place 14 first) where
-    pub both_inside : length row ≤ 1024 → (first ≤ 1024) × (second ≤ 1024)
-    both_inside short = choice_inside pair.source_sound short tag found (record { view = w.view; walk = w.both.in_source })
-
     pub go_left : Takes look first second new.at true → Takes source first second old.at true →
         WalksBoth row source look first old new × (place < first)
     go_left new_left old_left =
@@ -82,10 +80,10 @@ module _ {row : List ℕ} {source look : CutText} (pair : Pair source look) {pla
   pub go_next : {m : ℕ} {old new : Span} {l : View} → Ends look place new.at m → new.at < new.end → SeriesBoth row source look place old new l →
       SomeNext row source look place old (before new m)
   go_next ends more s =
-      record { view = _; both = record { in_source = s.in_source; in_look = (first_walks pair.look_sound ends more s.in_look).0 } }
+      record { view = _; both = record { in_source = s.in_source; in_look = (first_walks ends more s.in_look).0 } }
 
   -- The next part of the source, and the part of the look
   pub go_part : {m : ℕ} {old part : Span} {l : View} → Ends source place old.at m → old.at < old.end → NextBoth row source look place old part l →
       WalksBoth row source look place (before old m) part
   go_part ends more n =
-      record { view = _; both = record { in_source = (first_walks pair.source_sound ends more n.in_source).0; in_look = n.in_look } }
+      record { view = _; both = record { in_source = (first_walks ends more n.in_source).0; in_look = n.in_look } }

@@ -11,12 +11,13 @@ use Rattle.clear.proofs.Lengths.{form_long, both_long}
 use Rattle.walk.specs.declared.cut_text.CutText.{CutText}
 use Rattle.walk.specs.Turns.{Turns, GivesSome}
 use Rattle.walk.specs.Turned.{on_made}
-use Rattle.walk.specs.CutWalks.{Ends, other_part, Takes}
+use Rattle.walk.specs.Walks.{Ends, other_part, Takes}
 use Rattle.walk.proofs.Pieces.{slice_both, exactly_is}
 use Rattle.walk.proofs.Descending.{then_two, swap_two, either_two}
 use Rattle.walk.proofs.Giving.{Joins}
-use Rattle.put_back.specs.declared.span.Span.{Span}
-use Rattle.put_back.specs.Pairs.{Pair, in_span, WalkIn, before, after, WalkBoth, SeriesBoth}
+use Rattle.walk.specs.declared.span.Span.{Span}
+use Rattle.walk.specs.Spans.{before, after}
+use Rattle.put_back.specs.Pairs.{Pair, in_span, WalkIn, WalkBoth, SeriesBoth}
 use Rattle.put_back.proofs.Descending.{source_piece, look_piece, then_both, swap_both, source_left, source_right, look_left, look_right, each_both}
 
 -- What comes of a part of the look and a part of the source.
@@ -69,8 +70,8 @@ module _ {row : List ℕ} {source look : CutText} (pair : Pair source look) wher
         let x = moved (λ r r'. (k : View) → WalkBoth row source look first r.0 r'.0 k → PartPuts source look k r.0 r'.0 P) cut cut' one two.one a in
         let y = moved (λ r r'. (l : View) → WalkBoth row source look second r.1 r'.1 l → PartPuts source look l r.1 r'.1 Q) cut cut' other two.other b in
         puts_view two.is (puts_texts
-        (slice_both look.text.now new.at n new.end (look_piece pair a.in_look).0 (look_piece pair b.in_look).0)
-        (slice_both source.text.now old.at m old.end (source_piece pair a.in_source).0 (source_piece pair b.in_source).0)
+        (slice_both look.scanned.text.now new.at n new.end (look_piece pair a.in_look).0 (look_piece pair b.in_look).0)
+        (slice_both source.scanned.text.now old.at m old.end (source_piece pair a.in_source).0 (source_piece pair b.in_source).0)
         (record { out = x.out ++ y.out; holds = p_then _ _ _ _ _ _ x.holds y.holds; took = joins _ _ x.took y.took }))
 
     -- The look of the second part stands first.
@@ -85,8 +86,8 @@ module _ {row : List ℕ} {source look : CutText} (pair : Pair source look) wher
         let x = moved (λ r r'. (k : View) → WalkBoth row source look first r.0 r'.1 k → PartPuts source look k r.0 r'.1 P) cut cut' one two.one a in
         let y = moved (λ r r'. (l : View) → WalkBoth row source look second r.1 r'.0 l → PartPuts source look l r.1 r'.0 Q) cut cut' other two.other b in
         puts_view two.is (puts_texts
-        (slice_both look.text.now new.at n new.end (look_piece pair b.in_look).0 (look_piece pair a.in_look).0)
-        (slice_both source.text.now old.at m old.end (source_piece pair a.in_source).0 (source_piece pair b.in_source).0)
+        (slice_both look.scanned.text.now new.at n new.end (look_piece pair b.in_look).0 (look_piece pair a.in_look).0)
+        (slice_both source.scanned.text.now old.at m old.end (source_piece pair a.in_source).0 (source_piece pair b.in_source).0)
         (record { out = x.out ++ y.out; holds = p_swap _ _ _ _ _ _ x.holds y.holds; took = joins _ _ x.took y.took }))
 
   -- One or the other: put back if both texts are of the same one, and else made.

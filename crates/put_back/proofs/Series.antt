@@ -5,13 +5,14 @@ use Rattle.lens.specs.Views.{View, each, sources, Makes, Puts, p_none, p_both, p
 use Rattle.clear.specs.Sides.{side_form}
 use Rattle.marks.proofs.Cuts.{cut_ordered}
 use Rattle.walk.specs.declared.cut_text.CutText.{CutText}
-use Rattle.walk.specs.Turns.{Turns, GivesSome, slice}
-use Rattle.walk.specs.CutWalks.{Ends, CutSeries}
+use Rattle.walk.specs.Spans.{slice}
+use Rattle.walk.specs.Turns.{Turns, GivesSome}
+use Rattle.walk.specs.Walks.{Ends, CutSeries}
 use Rattle.walk.proofs.Holding.{series_piece}
 use Rattle.walk.proofs.Pieces.{slice_both, slice_none}
 use Rattle.walk.proofs.Descending.{first_walks}
 use Rattle.walk.proofs.Giving.{Joins}
-use Rattle.put_back.specs.declared.span.Span.{Span}
+use Rattle.walk.specs.declared.span.Span.{Span}
 use Rattle.put_back.specs.Pairs.{Pair, in_span, WalkIn, WalkBoth, NextBoth, Putting, PutNext}
 use Rattle.put_back.proofs.Joining.{PartPuts, makes}
 
@@ -63,10 +64,10 @@ slice_past text i e past = let none : e - i ≡ 0 = omega arith in ap (λ n. tak
 
 module _ {row : List ℕ} {source look : CutText} (pair : Pair source look) where
   -- The parts of the source that are left
-  left_piece : {place i e : ℕ} {l : View} → CutSeries row source place i e l → (i ≤ e) × Matches (many (sources l)) (slice source.text.now i e)
+  left_piece : {place i e : ℕ} {l : View} → CutSeries row source place i e l → (i ≤ e) × Matches (many (sources l)) (slice source.scanned.text.now i e)
   left_piece {i = i} {e} {l} s =
-      let p = series_piece pair.source_sound.ready pair.source_sound.tabled s.held in
-      (p.ordered, subst (λ side. Matches (many (side_form side l)) (slice source.text.now i e)) pair.source_side p.matches)
+      let p = series_piece s.held in
+      (p.ordered, subst (λ side. Matches (many (side_form side l)) (slice source.scanned.text.now i e)) pair.source_side p.matches)
 
   -- One part of the look: made if the source is used up, and else put into the next part
   module _ {place : ℕ} {rest part : Span} {l : View} {P : Text → Type 0} where
@@ -78,14 +79,14 @@ module _ {row : List ℕ} {source look : CutText} (pair : Pair source look) wher
           left = n.in_source;
           onward = le_refl rest.at;
           used = λ _. refl;
-          puts = putting_at refl (slice_none source.text.now rest.at) (putting_new used (record { out = g.out; holds = makes pair g.holds; took = g.took }));
+          puts = putting_at refl (slice_none source.scanned.text.now rest.at) (putting_new used (record { out = g.out; holds = makes pair g.holds; took = g.took }));
         }
 
     pub next_put : {m : ℕ} → rest.at < rest.end → Ends source place rest.at m →
         ((v : View) → WalkBoth row source look place (record { at = rest.at; end = m }) part v → PartPuts source look v (record { at = rest.at; end = m }) part P) →
         NextBoth row source look place rest part l → PutNext row source look place rest part l P m
     next_put more ends given n =
-        let (first, others, less) = first_walks pair.source_sound ends more n.in_source in
+        let (first, others, less) = first_walks ends more n.in_source in
         record {
           left = others;
           onward = omega arith;
@@ -96,19 +97,19 @@ module _ {row : List ℕ} {source look : CutText} (pair : Pair source look) wher
 -- All parts of the look up to `to` were put into the parts of the source up to `from`.
 abbrev pub PutUntil : CutText → CutText → View → Span → Span → ℕ → ℕ → (Text → Type 0) → Type 0
 PutUntil source look l old new from to =
-    Putting l (slice look.text.now new.at to) (slice source.text.now old.at from) (old.end ≤ from)
+    Putting l (slice look.scanned.text.now new.at to) (slice source.scanned.text.now old.at from) (old.end ≤ from)
 
 pub all_none : (source look : CutText) (l : View) (old new : Span) {P : Text → Type 0} → P [] → PutUntil source look l old new old.at new.at P
-all_none source look l old new given = putting_at (slice_none look.text.now new.at) (slice_none source.text.now old.at) (putting_none given)
+all_none source look l old new given = putting_at (slice_none look.scanned.text.now new.at) (slice_none source.scanned.text.now old.at) (putting_none given)
 
 module _ {row : List ℕ} {source look : CutText} (pair : Pair source look) {place : ℕ} (old new : Span) {l : View} where
   pub all_more : {from to n r : ℕ} {P Q R : Text → Type 0} → old.at ≤ from → new.at ≤ to → to ≤ n → PutUntil source look l old new from to P →
       PutNext row source look place (record { at = from; end = old.end }) (record { at = to; end = n }) l Q r → Joins P Q R →
       PutUntil source look l old new r n R
   all_more {from} {to} {n} {r} low low' high before next joins =
-      putting_at (slice_both look.text.now new.at to n low' high) (slice_both source.text.now old.at from r low next.onward)
+      putting_at (slice_both look.scanned.text.now new.at to n low' high) (slice_both source.scanned.text.now old.at from r low next.onward)
       (putting_more
-      (λ past. let same = next.used past in (omega arith, slice_past source.text.now from r (omega arith)))
+      (λ past. let same = next.used past in (omega arith, slice_past source.scanned.text.now from r (omega arith)))
       before next.puts joins)
 
   pub all_done : {from to : ℕ} {P : Text → Type 0} → old.at ≤ from → new.end ≤ to → CutSeries row source place from old.end l →
@@ -117,8 +118,8 @@ module _ {row : List ℕ} {source look : CutText} (pair : Pair source look) {pla
       let ordered = cut_ordered rest.held.cut in
       let same : to ≡ new.end = omega arith in
       let (fine, matches) = left_piece pair left in
-      let text = source.text.now in
+      let text = source.scanned.text.now in
       let whole = slice_both text old.at from old.end low fine in
-      subst (λ to. GivesSome (Puts (each l) (slice look.text.now new.at to) (in_span source old)) P) same
-      (subst (λ s. GivesSome (Puts (each l) (slice look.text.now new.at to) s) P) (sym whole)
+      subst (λ to. GivesSome (Puts (each l) (slice look.scanned.text.now new.at to) (in_span source old)) P) same
+      (subst (λ s. GivesSome (Puts (each l) (slice look.scanned.text.now new.at to) s) P) (sym whole)
       (putting_done given (slice text from old.end) matches (λ used. slice_past text from old.end used)))

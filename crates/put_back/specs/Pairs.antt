@@ -4,33 +4,24 @@ use Rattle.lens.specs.Forms.{Text}
 use Rattle.lens.specs.Views.{View, each, Puts}
 use Rattle.clear.specs.declared.side.Side.TheVariants.{Source, Look}
 use Rattle.walk.specs.declared.cut_text.CutText.{CutText}
-use Rattle.walk.specs.Turns.{slice}
-use Rattle.walk.specs.CutWalks.{Sound, CutWalk, CutSeries}
-use Rattle.put_back.specs.declared.span.Span.{Span}
+use Rattle.walk.specs.Spans.{slice}
+use Rattle.walk.specs.Walks.{CutWalk, CutSeries}
+use Rattle.walk.specs.declared.span.Span.{Span}
 
--- A source and a look, both cut.
+-- A source and a look.
 pub record Pair (source look : CutText) : Type 0 where
-  pub source_sound : Sound source
-  pub look_sound : Sound look
   pub source_side : source.side ≡ Source
   pub look_side : look.side ≡ Look
 
 -- A part of a cut text.
 abbrev pub in_span : CutText → Span → Text
-in_span cut part = slice cut.text.now part.at part.end
+in_span cut part = slice cut.scanned.text.now part.at part.end
 
 abbrev pub WalkIn : List ℕ → CutText → ℕ → Span → View → Type 0
 WalkIn row cut place part = CutWalk row cut place part.at part.end
 
 abbrev pub SeriesIn : List ℕ → CutText → ℕ → Span → View → Type 0
 SeriesIn row cut place part = CutSeries row cut place part.at part.end
-
--- A part, cut in two at m.
-abbrev pub before : Span → ℕ → Span
-before part m = record { at = part.at; end = m }
-
-abbrev pub after : Span → ℕ → Span
-after part m = record { at = m; end = part.end }
 
 -- The view v stands at `place`, and a part of it in each text.
 pub record WalkBoth (row : List ℕ) (source look : CutText) (place : ℕ) (old new : Span) (v : View) : Type 0 where
@@ -72,4 +63,4 @@ pub record PutNext (row : List ℕ) (source look : CutText) (place : ℕ) (rest 
   pub left : CutSeries row source place r rest.end l
   pub onward : rest.at ≤ r
   pub used : rest.end ≤ rest.at → r ≡ rest.at
-  pub puts : Putting l (in_span look part) (slice source.text.now rest.at r) (rest.end ≤ r) P
+  pub puts : Putting l (in_span look part) (slice source.scanned.text.now rest.at r) (rest.end ≤ r) P

@@ -3,9 +3,5 @@
 #![tactic(auto)]
 
 mod putting;
-mod span;
-mod whole;
 
-pub use putting::put_part;
-pub use span::Span;
-pub use whole::PutBack;
+pub use putting::PutBack;

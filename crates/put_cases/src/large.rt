@@ -3,7 +3,7 @@
 use crate::{laws_hold, put};
 use std::alloc::{AllocError, Global};
 use std::io;
-use views::Made;
+use views::Refused;
 
 const VIEW: &str =
     "each (copy ('0'..'9')+ \";\" hide (not \";\\n\")* new \"none\" \";\" copy (not \"\\n\")* \"\\n\")";
@@ -59,10 +59,10 @@ fn holds(
     let full = put(heap, row, source, look, &mut short, 0)?;
     let small = put(heap, row, source, look, &mut short, 1)?;
     Ok(
-        done == Made::Done(res.len())
+        done == Ok(res.len())
             && before == after
-            && (res.is_empty() || full == Made::Full)
-            && small == Made::Small
+            && (res.is_empty() || full == Err(Refused::Full))
+            && small == Err(Refused::Small)
             && short == untouched
             && laws_hold(heap, row, source, look, res)?,
     )

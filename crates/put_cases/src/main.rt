@@ -5,10 +5,12 @@
 
 mod cases;
 mod large;
+mod told;
 
 use cases::CASES;
 use std::alloc::{AllocError, Global};
 use std::io;
+use told::Told;
 use views::Made;
 
 fn main(rt: HostRuntime) -> io::Result<()> {
@@ -30,9 +32,10 @@ fn main(rt: HostRuntime) -> io::Result<()> {
             0,
         )?;
         let left = text_of(rt.alloc(), &out)?;
+        let told = Told(made);
         println!(rt; "{view}")?;
-        println!(rt; "  {look:?} into {source:?}: {made:?}: {left:?}")?;
-        if let Made::Done(len) = made {
+        println!(rt; "  {look:?} into {source:?}: {told}: {left:?}")?;
+        if let Ok(len) = made {
             edges(&rt, &row, source.as_bytes(), look.as_bytes(), len)?;
         }
     }
@@ -44,15 +47,15 @@ fn edges(rt: &HostRuntime, row: &[u8], source: &[u8], look: &[u8], len: usize) -
     let heap = rt.alloc();
     let mut short = vec![in heap; 46u8; len.saturating_sub(1)]?;
     let mut enough = vec![in heap; 46u8; len]?;
-    let small = put(heap, row, source, look, &mut enough, 1)?;
-    let full = put(heap, row, source, look, &mut short, 0)?;
-    let done = put(heap, row, source, look, &mut enough, 0)?;
+    let small = Told(put(heap, row, source, look, &mut enough, 1)?);
+    let full = Told(put(heap, row, source, look, &mut short, 0)?);
+    let done = Told(put(heap, row, source, look, &mut enough, 0)?);
     let laws = if laws_hold(heap, row, source, look, &enough)? {
         "both laws hold"
     } else {
         "A LAW IS BROKEN"
     };
-    println!(rt; "  {small:?}, {full:?}, {done:?}; {laws}")
+    println!(rt; "  {small}, {full}, {done}; {laws}")
 }
 
 // Whether both laws hold of a source, and of a look that was put back into it and gave the changed source.
@@ -68,7 +71,7 @@ pub fn laws_hold(
     };
     let mut again = vec![in heap; 46u8; source.len()]?;
     let made = put(heap, row, source, &seen, &mut again, 0)?;
-    let same = made == Made::Done(source.len()) && again.as_slice() == source;
+    let same = made == Ok(source.len()) && again.as_slice() == source;
     let Some(seen) = shown(heap, row, changed)? else {
         return Ok(false);
     };
@@ -79,13 +82,11 @@ pub fn laws_hold(
 fn shown(heap: Global, row: &[u8], source: &[u8]) -> Result<Option<Vec<u8>>, AllocError> {
     let mut work = vec![in heap; 7u32; room(row.len(), source.len())]?;
     let mut out = vec![in heap; 46u8; source.len().saturating_add(1024)]?;
-    match views::show(row, source, &mut out, &mut work) {
-        Made::Done(len) => {
-            out.truncate(len);
-            Ok(Some(out))
-        }
-        _ => Ok(None),
-    }
+    let Ok(len) = views::show(row, source, &mut out, &mut work) else {
+        return Ok(None);
+    };
+    out.truncate(len);
+    Ok(Some(out))
 }
 
 // Puts a look back with so many work words less than are wanted.
@@ -102,7 +103,7 @@ pub fn put(
     Ok(views::put(row, source, look, out, &mut work))
 }
 
-// The work words that a call wants, by its own rule.
+// The work words that a call wants, counted here once more, since this is what holds the call's own count to its rule.
 fn room(view: usize, texts: usize) -> usize {
     let n = view.min(1025);
     let cells = (n + 1).saturating_mul(texts.saturating_add(1));

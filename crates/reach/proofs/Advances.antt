@@ -54,17 +54,17 @@ module _ {E : ℕ → ℕ → Type 0} {n : ℕ} where
     keeps = x.keeps;
     sound = λ b l t. elim (x.sound b t) [
       | inl old ↦ stays b l old
-      | inr e ↦ record { start = a; less = less; marked = fresh.met; path = step e here }
+      | inr e ↦ record { start = a; less = less; marked = fresh.has; path = step e here }
     ];
     beyond = λ b l t. elim (x.sound b t) [ inl old ↦ old | inr e ↦ absurd (omega (arith, x.within b e)) ];
     settles = λ k d. elim (puts_back p k d) [ inl old ↦ inl old | inr at ↦ inr (rw at settled) ];
-    counted = misses_falls _ _ a n less fresh.waits p.here p.others;
+    counted = misses_falls _ _ a n less fresh.lacks p.here p.others;
     seen_long = x.long;
     done_long = p.long;
   }
     where
       settled : Settled E n seen' a
-      settled = record { marked = x.keeps a fresh.met; followed = x.complete; within = x.within }
+      settled = record { marked = x.keeps a fresh.has; followed = x.complete; within = x.within }
 
   pub advances_then : {seen done seen' done' seen'' done'' : List ℕ} {v w : ℕ}
       → Advances E n seen done seen' done' v → Advances E n seen' done' seen'' done'' w → Advances E n seen done seen'' done'' (v + w)
@@ -102,7 +102,7 @@ module _ {E : ℕ → ℕ → Type 0} {n : ℕ} where
   }
     where
       visited : (a : ℕ) → a < n → bit seen' a ≡ true → bit done' a ≡ true
-      visited a l t = elim (cases_Bool (bit done' a)) [ inl d ↦ d | inr w ↦ absurd (none a l (record { met = t; waits = w })) ]
+      visited a l t = elim (cases_Bool (bit done' a)) [ inl d ↦ d | inr w ↦ absurd (none a l (record { has = t; lacks = w })) ]
 
       settled : (a : ℕ) → bit done' a ≡ true → Settled E n seen' a
       settled a d = elim (x.settles a d) [ inl old ↦ absurd (both_ways _ (clear.none a) old) | inr s ↦ s ]

@@ -1,6 +1,5 @@
 -- Reachability: that the search marks exactly what is reached, and that it can be told of a finite graph.
 pub mod Paths
 pub mod Misses
-pub mod Scans
 pub mod Advances
 pub mod Decide

@@ -1,30 +1,22 @@
 -- What the parts of the search promise: they look for a node to visit, mark where it leads, and visit one node after another.
 -- Two tables of bits hold the state. `seen` has the nodes that were met, and `done` those of them that were visited.
-use Rattle.std.specs.Prelude.{◌≡◌, ℕ, ◌+◌, ◌<◌, ◌≤◌, true, false, ◌⊎◌, List, length}
-use Rattle.bits.specs.Bits.{bit}
+use Rattle.std.specs.Prelude.{◌≡◌, ℕ, ◌+◌, ◌*◌, ◌<◌, ◌≤◌, true, ◌⊎◌, Option, Some, None, List, length}
+use Rattle.bits.specs.Bits.{bit, IsLeft}
 use Rattle.reach.specs.Closed.{misses, Reached}
 
+-- There is a bit for each of n nodes in both tables.
+pub record HasRoom (n : ℕ) (seen done : List ℕ) : Type 0 where
+  pub seen_room : n ≤ 32 * length seen
+  pub done_room : n ≤ 32 * length done
+
 -- A node is fresh if it was met, and not visited yet.
-pub record Fresh (seen done : List ℕ) (k : ℕ) : Type 0 where
-  pub met : bit seen k ≡ true
-  pub waits : bit done k ≡ false
+abbrev pub Fresh : List ℕ → List ℕ → ℕ → Type 0
+Fresh seen done k = IsLeft seen done k
 
--- `next`: nothing is fresh between k and r.
-pub record Passes (seen done : List ℕ) (k r : ℕ) : Type 0 where
-  pub on : k < r
-  pub none : (j : ℕ) → k < j → j < r → Fresh seen done j → ⊥
-
--- `find`: the first fresh node from k on, or n if there is none below n.
-pub record Finds (seen done : List ℕ) (n k r : ℕ) : Type 0 where
-  pub within : r ≤ n
-  pub fresh : r < n → Fresh seen done r
-  pub none : (j : ℕ) → k ≤ j → j < r → Fresh seen done j → ⊥
-
--- `find_any`: some fresh node, or n if there is none below n.
-pub record Picks (seen done : List ℕ) (n r : ℕ) : Type 0 where
-  pub within : r ≤ n
-  pub fresh : r < n → Fresh seen done r
-  pub none : n ≤ r → (j : ℕ) → j < n → Fresh seen done j → ⊥
+-- `find_any`: some fresh node below n, or that there is none.
+abbrev pub Picks : List ℕ → List ℕ → ℕ → Option ℕ → Type 0
+Picks seen done n (Some k) = (k < n) × Fresh seen done k
+Picks seen done n None = (j : ℕ) → j < n → Fresh seen done j → ⊥
 
 -- `expand`: exactly what was marked, and where the edges out of one node lead, is marked.
 -- `Out b` says that an edge leads to b.

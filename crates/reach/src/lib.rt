@@ -4,6 +4,7 @@
 
 mod find;
 mod graph;
+mod hints;
 mod search;
 
 pub use graph::{Graph, Moves};

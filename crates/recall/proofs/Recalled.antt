@@ -1,157 +1,196 @@
--- Remembered steps: that they last when slots are added, and that a step that was made can be remembered.
-use Rattle.std.proofs.Common.{◌≡◌, ℕ, ◌+◌, ◌*◌, ◌<◌, ◌≤◌, Bool, false, not, ◌&&◌, List, [], ◌∷◌, length, get_or, set, Decides, sym, refl, ap, ◌∙◌, subst, inl, inr, arith, get_or-set_other, get_or-set_same}
+-- Remembered steps: that they last when a row is kept, a slot is taken and a step is noted; what a step that was made leads to;
+-- and that a step that is remembered is the one that would be made.
+use Rattle.std.proofs.Common.{◌≡◌, ℕ, ◌+◌, ◌-◌, ◌*◌, ◌<◌, ◌≤◌, Bool, false, not, ◌&&◌, List, [], ◌∷◌, ◌++◌, length, get_or, set, take, drop, replicate, length-take-le, length-drop, Option, Some, None, SomeIff, IfSome, Decides, sym, refl, ap, ◌∙◌, subst, inl, inr, arith, get_or-set_other, get_or-set_same}
 use borrow.Author.Tests.{clash}
+use borrow.Rule.Slice.PartMut.{put_mid}
+use Rattle.std.proofs.lemmas.Grind.{elements}
 use Rattle.std.proofs.lemmas.Bool.Decides.{Decides-at}
 use Rattle.std.proofs.lemmas.Bool.{cases_eq, cases_lt}
 use Rattle.lens.specs.Forms.{Text}
 use Rattle.bits.specs.Bits.{bit}
 use Rattle.trees.specs.declared.tree.Tree.{Tree}
 use Rattle.trees.specs.declared.step.Spot.{Spot}
-use Rattle.trees.specs.Rows.{Ready, Starts, Behind, Steps, row_at}
-use Rattle.trees.proofs.Within.{at_within}
+use Rattle.trees.specs.Rows.{Starts, Behind, Steps, row_at}
+use Rattle.trees.proofs.Told.{told_begins}
+use Rattle.trees.proofs.Kept.{sure_less, sure_decides, stands_within}
 use Rattle.trees.proofs.Tables.{row_within}
-use Rattle.recall.specs.declared.memory.State.{State}
-use Rattle.recall.specs.Slots.{width, slot_bit, Keeps, Copies, Finds}
-use Rattle.recall.specs.Recalls.{Leads, Recalls, Known, MadeStep, Takes, Notes, Remembers}
+use Rattle.recall.specs.declared.memory.Memory.{Memory}
+use Rattle.recall.specs.Slots.{width, slot_bit, Keeps, Copies, SameSlots}
+use Rattle.recall.specs.Recalls.{Leads, Recalls}
+use Rattle.recall.specs.Memory.{Known, KnownBehind, MadeStep, IsSameRoom, Takes, Notes}
+
+-- What a memory keeps as a fact of its own, with its proof.
+pub recalls_of : (memory : Memory) → Recalls memory.tree memory.rows.now memory.next.now memory.used
+recalls_of memory = record { steps = λ k b to l small is. (sure_less memory.recalls (λ r. (r.steps k b to l small is).0), leads k b to l small is) }
+  where
+    leads : (k b to : ℕ) → k < memory.used → b < 256 → get_or memory.next.now (256 * k + b) 0 ≡ to + 1 → Leads memory.tree memory.rows.now k b to
+    leads k b to l small is = record {
+      tells = λ c t starts. record {
+        tells = λ q f σ low at.
+            sure_decides memory.recalls _ (told_begins f σ (b ∷ (c ∷ t)))
+            (λ r. ((r.steps k b to l small is).1.tells c t starts).tells q f σ low at);
+      };
+    }
 
 -- Rows that agree on the nodes of a tree tell the same.
-pub starts_like : {tree : Tree} {row row' : ℕ → Bool} {t : Text} → Ready tree → ((q : ℕ) → q < tree.size → row' q ≡ row q) → Starts tree row 0 t → Starts tree row' 0 t
-starts_like ready same starts =
-    record { tells = λ q f σ low at. Decides-at _ _ (same q (at_within ready.linked ready.inside at).1) (starts.tells q f σ low at) }
+pub starts_like : (tree : Tree) {row row' : ℕ → Bool} {t : Text} → ((q : ℕ) → q < tree.size → row' q ≡ row q) → Starts tree row 0 t → Starts tree row' 0 t
+starts_like tree same starts =
+    record { tells = λ q f σ low at. Decides-at _ _ (same q (stands_within tree at).1) (starts.tells q f σ low at) }
 
+-- A row is kept in the slot behind the used ones, with the same row in the slot `to`.
+module _ (tree : Tree) {bits rows rows' : List ℕ} {row used : ℕ} (keeps : Keeps tree.size bits row rows rows' used tree.size) where
+  old_rows : (k : ℕ) → k < used → (q : ℕ) → q < tree.size → slot_bit tree.size rows' k q ≡ slot_bit tree.size rows k q
+  old_rows k l q q_in = let before = row_within k used (width tree.size) l in keeps.before (32 * (k * width tree.size) + q) (omega arith)
+
+  pub kept_row : {to : ℕ} → SameSlots tree.size rows' to used → (q : ℕ) → q < tree.size → slot_bit tree.size rows' to q ≡ bit bits (row + q)
+  kept_row same q q_in = same.same q q_in ∙ keeps.here q q_in
+
+  pub recalls_kept : {next : List ℕ} → Recalls tree rows next used → Recalls tree rows' next used
+  recalls_kept recalls = record {
+    steps = λ k b to l small is.
+        let (there, leads) = recalls.steps k b to l small is in
+        (there, record { tells = λ c t starts. starts_like tree (old_rows to there) (leads.tells c t (starts_like tree (λ q q_in. sym (old_rows k l q q_in)) starts)) });
+  }
+
+  pub leads_kept : {k b to : ℕ} → k < used → SameSlots tree.size rows' to used →
+      ((c : ℕ) (t : Text) → Starts tree (slot_bit tree.size rows k) 0 (c ∷ t) → Starts tree (row_at bits row) 0 (b ∷ (c ∷ t))) → Leads tree rows' k b to
+  leads_kept {k} l same leads = record {
+    tells = λ c t starts. starts_like tree (kept_row same) (leads c t (starts_like tree (λ q q_in. sym (old_rows k l q q_in)) starts));
+  }
+
+-- A slot may be taken.
+pub recalls_taken : {tree : Tree} {rows next next' : List ℕ} {used slots r : ℕ} → Takes next next' used slots r → Recalls tree rows next used → Recalls tree rows next' r
+recalls_taken {tree} {rows} {next} {next'} {used} {slots} {r} takes recalls = record { steps = steps }
+  where
+    steps : (k b to : ℕ) → k < r → b < 256 → get_or next' (256 * k + b) 0 ≡ to + 1 → (to < r) × Leads tree rows k b to
+    steps k b to l small is = elim (cases_lt k used) [
+      | inl old ↦
+          let (there, leads) = recalls.steps k b to old small (sym (takes.kept k b old small) ∙ is) in
+          let low = takes.low in
+          (omega arith, leads)
+      | inr new ↦
+          let high = takes.high in
+          let here : k ≡ used = omega arith in
+          let fresh = takes.fresh (omega arith) b small in
+          absurd (omega (arith, sym fresh ∙ ap (λ k. get_or next' (256 * k + b) 0) (sym here) ∙ is))
+    ]
+
+-- A step is noted.
+pub notes_set : {next : List ℕ} {slot byte to : ℕ} → 256 * slot + 256 ≤ length next → byte < 256 → Notes next (set next (256 * slot + byte) (to + 1)) slot byte to
+notes_set {next} {slot} {byte} {to} long small = record {
+  each = λ k b l. elim (cases_eq (256 * k + b) (256 * slot + byte)) [
+    | inl same ↦ inr (
+      omega arith,
+      omega arith,
+      ap (λ i. get_or (set next (256 * slot + byte) (to + 1)) i 0) same ∙ get_or-set_same next (256 * slot + byte) (to + 1) 0 (omega arith),
+    )
+    | inr other ↦ inl (get_or-set_other next (256 * slot + byte) (256 * k + b) (to + 1) 0 other)
+  ];
+}
+
+pub recalls_noted : {tree : Tree} {rows next next' : List ℕ} {used slot byte to : ℕ} → Notes next next' slot byte to → to < used → Leads tree rows slot byte to →
+    Recalls tree rows next used → Recalls tree rows next' used
+recalls_noted {tree} {rows} {next} {next'} {used} {slot} {byte} {to} notes there leads recalls = record { steps = steps }
+  where
+    steps : (k b end : ℕ) → k < used → b < 256 → get_or next' (256 * k + b) 0 ≡ end + 1 → (end < used) × Leads tree rows k b end
+    steps k b end l small is = elim (notes.each k b small) [
+      | inl same ↦ recalls.steps k b end l small (sym same ∙ is)
+      | inr (from, by, noted) ↦
+          let same : to ≡ end = omega (arith, sym noted ∙ is) in (
+            subst (λ to. to < used) same there,
+            subst (λ to. Leads tree rows k b to) same (subst (λ k. Leads tree rows k b to) (sym from) (subst (λ b. Leads tree rows slot b to) (sym by) leads)),
+          )
+    ]
+
+-- A step at a spot, from the row of a slot.
 not_last : {c : ℕ} {t : Text} {last : Bool} → last ≡ false → Decides last (c ∷ t ≡ [])
 not_last {c} {t} e = (λ yes. absurd (clash (sym e ∙ yes)), λ none. absurd (some none))
   where
     some : c ∷ t ≡ [] → ⊥
     some e = let z : ◌≡◌ {A = ℕ} 0 1 = cc in omega arith
 
-module _ {tree : Tree} (ready : Ready tree) {spot : Spot} {state : State} {rows : List ℕ} {old : List ℕ}
-    (known : Known tree.size rows old (spot.row + tree.size) state) (inner : state.slot < state.used → spot.last ≡ false) where
-  -- The row behind the spot is that of the slot.
-  behind_slot : {c : ℕ} {t : Text} → state.slot < state.used → Starts tree (slot_bit tree.size rows state.slot) 0 (c ∷ t) → Behind tree old spot (c ∷ t)
-  behind_slot used starts = record {
-    starts = starts_like ready (λ q l. ap (λ b. not b && bit old (spot.row + tree.size + q)) (inner used) ∙ known.same used q l) starts;
-    ends = not_last (inner used);
-  }
+module _ (memory : Memory) (spot : Spot) (same : spot.tree ≡ memory.tree) {old : List ℕ} {from : Option ℕ}
+    (behind : KnownBehind memory old spot from) where
+  agree : (k : ℕ) → from ≡ Some k → (q : ℕ) → q < spot.tree.size → not spot.last && bit old (spot.row + spot.tree.size + q) ≡ slot_bit memory.tree.size memory.rows.now k q
+  agree k is q l = ap (λ b. not b && bit old (spot.row + spot.tree.size + q)) (behind.more k is) ∙ behind.known.same k is q (omega (arith, ap (λ t. t.size) same))
 
-  slot_behind : {t : Text} → state.slot < state.used → Behind tree old spot t → Starts tree (slot_bit tree.size rows state.slot) 0 t
-  slot_behind used behind =
-      starts_like ready (λ q l. sym (known.same used q l) ∙ ap (λ b. not b && bit old (spot.row + tree.size + q)) (sym (inner used))) behind.starts
+  -- The row behind the spot is that of the slot.
+  behind_slot : {c : ℕ} {t : Text} (k : ℕ) → from ≡ Some k → Starts spot.tree (slot_bit memory.tree.size memory.rows.now k) 0 (c ∷ t) → Behind old spot (c ∷ t)
+  behind_slot k is starts = record { starts = starts_like spot.tree (agree k is) starts; ends = not_last (behind.more k is) }
 
   -- A step that was made leads from the slot to the new row.
-  pub made_step : {new : List ℕ} → Steps tree spot old new 0 → MadeStep tree rows new spot state
-  made_step steps = record { leads = λ used c t starts. steps.tells (c ∷ t) (behind_slot used starts) }
+  pub made_step : {new : List ℕ} → Steps spot old new 0 → MadeStep memory new spot from
+  made_step {new} steps = record {
+    there = behind.known.there;
+    leads = λ k is c t starts.
+        subst (λ tree. Starts tree (row_at new spot.row) 0 (spot.byte ∷ (c ∷ t))) same
+        (steps.tells (c ∷ t) (behind_slot k is (subst (λ tree. Starts tree (slot_bit memory.tree.size memory.rows.now k) 0 (c ∷ t)) (sym same) starts)));
+  }
 
   -- A step that is remembered, once the row that it leads to is copied.
-  pub recalled_step : {next new : List ℕ} {to : ℕ} → spot.byte < 256 → state.slot < state.used → Recalls tree rows next state.used →
-      get_or next (256 * state.slot + spot.byte) 0 ≡ to + 1 → Copies tree.size rows to old new spot.row tree.size → Steps tree spot old new 0
-  recalled_step {new = new} {to} byte used recalls is copies = record {
-    tells = λ t behind. tell t behind;
-    kept = λ k l. copies.behind k l;
-  }
+  pub recalled_step : {new : List ℕ} {to : ℕ} (k : ℕ) → from ≡ Some k → Leads memory.tree memory.rows.now k spot.byte to →
+      Copies memory.tree.size memory.rows.now to old new spot.row memory.tree.size → Steps spot old new 0
+  recalled_step {new} {to} k is leads copies = record { tells = tells; kept = λ j l. copies.behind j (omega (arith, ap (λ t. t.size) same)) }
     where
-      tell : (t : Text) → Behind tree old spot t → Starts tree (row_at new spot.row) 0 (spot.byte ∷ t)
-      tell [] behind = absurd (clash (sym (inner used) ∙ behind.ends.1 refl))
-      tell (c ∷ t) behind =
-          starts_like ready (λ q l. copies.here q l)
-          ((recalls.steps state.slot spot.byte to used byte is).1.tells c t (slot_behind used behind))
+      tells : (t : Text) → Behind old spot t → Starts spot.tree (row_at new spot.row) 0 (spot.byte ∷ t)
+      tells [] stands = absurd (clash (sym (behind.more k is) ∙ stands.ends.1 refl))
+      tells (c ∷ t) stands =
+          subst (λ tree. Starts tree (row_at new spot.row) 0 (spot.byte ∷ (c ∷ t))) (sym same)
+          (starts_like memory.tree (λ q l. copies.here q l)
+          (leads.tells c t (subst (λ tree. Starts tree (slot_bit memory.tree.size memory.rows.now k) 0 (c ∷ t)) same (starts_like spot.tree (λ q l. sym (agree k is q l)) stands.starts))))
 
--- One step more is noted.
-pub notes_set : {next : List ℕ} {state : State} {byte to after : ℕ} → 256 * state.slot + 256 ≤ length next → byte < 256 → state.slot < state.used → to < after →
-    Notes next (set next (256 * state.slot + byte) (to + 1)) state byte to after
-notes_set {next} {state} {byte} {to} long small used known = record {
-  each = λ k b l. elim (cases_eq (256 * k + b) (256 * state.slot + byte)) [
-    | inl same ↦ inr (
-      omega arith,
-      omega arith,
-      ap (λ i. get_or (set next (256 * state.slot + byte) (to + 1)) i 0) same ∙ get_or-set_same next (256 * state.slot + byte) (to + 1) 0 (omega arith),
-      used,
-      known,
-    )
-    | inr other ↦ inl (get_or-set_other next (256 * state.slot + byte) (256 * k + b) (to + 1) 0 other)
-  ];
-}
+-- What is known of the step from a slot by a byte: one more than where it leads is kept, or 0.
+pub recalled_is : (memory : Memory) (k b : ℕ) (r : Option ℕ) → k < memory.used → b < 256 →
+    SomeIff r (1 ≤ get_or memory.next.now (256 * k + b) 0) (get_or memory.next.now (256 * k + b) 0 - 1) →
+    IfSome r (λ to. (to < memory.used) × Leads memory.tree memory.rows.now k b to)
+recalled_is memory k b None l small is = tt
+recalled_is memory k b (Some to) l small is = (recalls_of memory).steps k b to l small (omega (arith, is.0, is.1))
 
--- A slot is taken: the steps from it are forgotten one by one.
-pub record Forgets (old new : List ℕ) (k m : ℕ) : Type 0 where
-  pub kept : (j b : ℕ) → j < k → b < 256 → get_or new (256 * j + b) 0 ≡ get_or old (256 * j + b) 0
-  pub fresh : (b : ℕ) → b < m → get_or new (256 * k + b) 0 ≡ 0
+-- Words that were filled with zeros.
+module _ (xs rest : List ℕ) (a m : ℕ) (inside : a ≤ length xs) where
+  filled_before : (i : ℕ) → i < a → get_or (take a xs ++ (replicate m 0 ++ rest)) i 0 ≡ get_or xs i 0
+  filled_before i l = grind (arith, elements)
 
-pub forgets_none : (next : List ℕ) (k : ℕ) → Forgets next next k 0
-forgets_none next k = record { kept = λ j b l l'. refl; fresh = λ b l. absurd (omega arith) }
+  filled_here : (b : ℕ) → b < m → get_or (take a xs ++ (replicate m 0 ++ rest)) (a + b) 0 ≡ 0
+  filled_here b l = grind (arith, elements)
 
-pub forgets_more : {old mid : List ℕ} {k m : ℕ} → 256 * k + m < length mid → m < 256 → Forgets old mid k m → Forgets old (set mid (256 * k + m) 0) k (m + 1)
-forgets_more {old} {mid} {k} {m} inside small f = record {
-  kept = λ j b l l'. get_or-set_other mid (256 * k + m) (256 * j + b) 0 0 (omega arith) ∙ f.kept j b l l';
-  fresh = λ b l. elim (cases_eq b m) [
-    | inl same ↦ ap (λ b. get_or (set mid (256 * k + m) 0) (256 * k + b) 0) same ∙ get_or-set_same mid (256 * k + m) 0 0 inside
-    | inr other ↦ get_or-set_other mid (256 * k + m) (256 * k + b) 0 0 (λ e. other (omega arith)) ∙ f.fresh b (omega (arith, other))
-  ];
-}
+pub takes_filled : {next zeros : List ℕ} {k slots n m : ℕ} → n ≡ 256 → m ≡ 256 → zeros ≡ replicate m 0 → k + 1 ≤ slots → 256 * slots ≤ length next →
+    Takes next (put_mid (256 * k) n next zeros) k slots (k + 1)
+takes_filled {next} {zeros} {k} {slots} {n} {m} part size is within long =
+    subst (λ zeros. Takes next (put_mid (256 * k) n next zeros) k slots (k + 1)) (sym is) (record {
+      low = omega arith;
+      high = omega arith;
+      within = within;
+      kept = λ j b l small. filled_before next (drop n (drop (256 * k) next)) (256 * k) m (omega arith) (256 * j + b) (omega arith);
+      fresh = λ l b small. filled_here next (drop n (drop (256 * k) next)) (256 * k) m (omega arith) b (omega arith);
+    })
 
-pub takes_none : (next : List ℕ) {k slots : ℕ} → k ≤ slots → Takes next next k slots k
-takes_none next within = record { low = omega arith; high = omega arith; within = within; kept = λ j b l l'. refl; fresh = λ l. absurd (omega arith) }
+pub length-filled : (xs zeros : List ℕ) (a n : ℕ) → length zeros ≡ n → a + n ≤ length xs → length (put_mid a n xs zeros) ≡ length xs
+length-filled xs zeros a n size inside = grind (arith, elements)
 
-pub takes_one : {old new : List ℕ} {k slots : ℕ} → k + 1 ≤ slots → Forgets old new k 256 → Takes old new k slots (k + 1)
-takes_one within f = record { low = omega arith; high = omega arith; within = within; kept = f.kept; fresh = λ l. f.fresh }
+pub filled_part : (xs : List ℕ) (a n : ℕ) → n ≡ 256 → a + 256 ≤ length xs → length (take n (drop a xs)) ≡ 256
+filled_part xs a n part inside = length-take-le n (drop a xs) (simp length-drop (omega arith)) ∙ part
 
--- No slot is free.
-pub remembers_none : {tree : Tree} {rows next bits : List ℕ} {spot : Spot} {slots used : ℕ} → used ≤ slots → Recalls tree rows next used →
-    Remembers tree rows next bits spot slots (record { used = used; slot = used })
-remembers_none free recalls = record { recalls = recalls; free = free; known = record { same = λ l. absurd (omega arith) } }
+-- A row was kept, and then a used slot was found for it.
+module _ {old kept placed : Memory} {bits : List ℕ} {row to : ℕ} (room : IsSameRoom old kept) (used : kept.used ≡ old.used)
+    (keeps : Keeps old.tree.size bits row old.rows.now kept.rows.now old.used old.tree.size)
+    (room' : IsSameRoom kept placed) (rows : placed.rows.now ≡ kept.rows.now) (same : SameSlots kept.tree.size kept.rows.now to kept.used) where
+  there : SameSlots old.tree.size kept.rows.now to old.used
+  there = subst (λ n. SameSlots n kept.rows.now to old.used) (ap (λ t. t.size) room.tree) (subst (λ u. SameSlots kept.tree.size kept.rows.now to u) used same)
 
--- The row of a slot was copied to the spot.
-pub remembers_known : {tree : Tree} {rows next old bits : List ℕ} {spot : Spot} {slots used to : ℕ} → used ≤ slots → Recalls tree rows next used →
-    Copies tree.size rows to old bits spot.row tree.size → Remembers tree rows next bits spot slots (record { used = used; slot = to })
-remembers_known free recalls copies = record { recalls = recalls; free = free; known = record { same = λ l q q_in. copies.here q q_in } }
+  pub placed_leads : {spot : Spot} {from : Option ℕ} {k : ℕ} → MadeStep old bits spot from → row ≡ spot.row → from ≡ Some k → Leads placed.tree placed.rows.now k spot.byte to
+  placed_leads {spot} {from} {k} made begin is =
+      subst (λ tree. Leads tree placed.rows.now k spot.byte to) (sym (room'.tree ∙ room.tree))
+      (subst (λ rows. Leads old.tree rows k spot.byte to) (sym rows)
+      (leads_kept old.tree keeps (made.there k is) there
+      (λ c t starts. subst (λ row. Starts old.tree (row_at bits row) 0 (spot.byte ∷ (c ∷ t))) (sym begin) (made.leads k is c t starts))))
 
-module _ {tree : Tree} (ready : Ready tree) {rows rows' next mid next' bits : List ℕ} {spot : Spot} {slots slot after : ℕ} {state : State} where
-  pub remember_all : Recalls tree rows next state.used → MadeStep tree rows bits spot state → Keeps tree.size bits spot.row rows rows' state.used tree.size →
-      Finds tree.size rows' state.used slot → Takes next mid state.used slots after → Notes mid next' state spot.byte slot after →
-      Remembers tree rows' next' bits spot slots (record { used = after; slot = slot })
-  remember_all recalls made keeps finds takes notes = record {
-    recalls = record { steps = steps };
-    free = takes.within;
-    known = record { same = λ l q q_in. sym (kept_row q q_in) };
+  pub placed_known : {after : Memory} → IsSameRoom placed after → after.rows.now ≡ placed.rows.now → to < after.used → Known after bits row (Some to)
+  placed_known {after} room'' rows' inside = record {
+    there = λ k e. let is : k ≡ to = cc in omega arith;
+    same = λ k e q l.
+        let is : k ≡ to = cc in
+        let size : after.tree.size ≡ old.tree.size = ap (λ t. t.size) (room''.tree ∙ room'.tree ∙ room.tree) in
+        sym (ap (λ k. slot_bit after.tree.size after.rows.now k q) is ∙ ap (λ rows. slot_bit after.tree.size rows to q) (rows' ∙ rows)
+        ∙ ap (λ n. slot_bit n kept.rows.now to q) size ∙ kept_row old.tree keeps there q (omega arith));
   }
-    where
-      -- The rows of used slots are as they were, and the found slot has the row of the spot.
-      old_rows : (k : ℕ) → k < state.used → (q : ℕ) → q < tree.size → slot_bit tree.size rows' k q ≡ slot_bit tree.size rows k q
-      old_rows k l q q_in = let before = row_within k state.used (width tree.size) l in keeps.before (32 * (k * width tree.size) + q) (omega arith)
-
-      kept_row : (q : ℕ) → q < tree.size → slot_bit tree.size rows' slot q ≡ bit bits (spot.row + q)
-      kept_row q q_in = finds.same.same q q_in ∙ keeps.here q q_in
-
-      leads : {k b to : ℕ} → k < state.used → to < state.used → Leads tree rows k b to → Leads tree rows' k b to
-      leads {k} {b} {to} from there l = record {
-        tells = λ c t starts. starts_like ready (old_rows to there) (l.tells c t (starts_like ready (λ q q_in. sym (old_rows k from q q_in)) starts));
-      }
-
-      new_step : state.slot < state.used → Leads tree rows' state.slot spot.byte slot
-      new_step used = record {
-        tells = λ c t starts. starts_like ready kept_row (made.leads used c t (starts_like ready (λ q q_in. sym (old_rows state.slot used q q_in)) starts));
-      }
-
-      kept_step : (k b to : ℕ) → k < after → b < 256 → get_or mid (256 * k + b) 0 ≡ to + 1 → (to < after) × Leads tree rows' k b to
-      kept_step k b to l small is = elim (cases_lt k state.used) [
-        | inl old ↦
-            let (there, lead) = recalls.steps k b to old small (sym (takes.kept k b old small) ∙ is) in
-            let low = takes.low in
-            (omega arith, leads old there lead)
-        | inr new ↦
-            let high = takes.high in
-            let here : k ≡ state.used = omega arith in
-            let none = takes.fresh (omega arith) b small in
-            let zero = ap (λ k. get_or mid (256 * k + b) 0) (sym here) ∙ is in
-            absurd (omega (arith, sym none ∙ zero))
-      ]
-
-      steps : (k b to : ℕ) → k < after → b < 256 → get_or next' (256 * k + b) 0 ≡ to + 1 → (to < after) × Leads tree rows' k b to
-      steps k b to l small is = elim (notes.each k b small) [
-        | inl same ↦ kept_step k b to l small (sym same ∙ is)
-        | inr (from, byte, noted, used, known) ↦
-            let there : slot ≡ to = omega (arith, sym noted ∙ is) in (
-              subst (λ to. to < after) there known,
-              subst (λ to. Leads tree rows' k b to) there (subst (λ k. Leads tree rows' k b slot) (sym from) (subst (λ b. Leads tree rows' state.slot b slot) (sym byte) (new_step used))),
-            )
-      ]

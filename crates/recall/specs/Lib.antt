@@ -1,3 +1,4 @@
 -- Rows of bits in slots, and the steps between them that are remembered.
 pub mod Slots
 pub mod Recalls
+pub mod Memory

@@ -24,7 +24,7 @@ pub record Copies (n : ℕ) (rows : List ℕ) (k : ℕ) (old new : List ℕ) (ro
 pub record SameSlots (n : ℕ) (rows : List ℕ) (k k' : ℕ) : Type 0 where
   pub same : (q : ℕ) → q < n → slot_bit n rows k q ≡ slot_bit n rows k' q
 
--- The slot r, at or before k, has the row of k.
+-- The slot r, before k, has the row of k.
 pub record Finds (n : ℕ) (rows : List ℕ) (k r : ℕ) : Type 0 where
-  pub before : r ≤ k
+  pub before : r < k
   pub same : SameSlots n rows r k

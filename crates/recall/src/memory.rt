@@ -1,106 +1,189 @@
-// One step of the pass, remembered or made and then remembered.
-ghost use Rattle.std.specs.Prelude.{◌≡◌, ◌+◌, ◌*◌, ◌^◌, ◌<◌, ◌≤◌, false, length};
-ghost use Rattle.trees.specs.Rows.{Ready, Steps};
-ghost use Rattle.recall.specs.Recalls.{Recalls, Room, Known, MadeStep, Takes, Notes, Remembers};
+// Room to remember steps in, and one step of the pass, remembered or made and then remembered.
+ghost use Rattle.std.specs.Prelude.{◌≡◌, ◌+◌, ◌*◌, ◌^◌, ◌<◌, ◌≤◌, IfSome, length};
+ghost use Rattle.recall.specs.Recalls.{Recalls, Room, Leads};
+ghost use Rattle.recall.specs.Slots.{Keeps, Copies, SameSlots, Finds};
 
-use crate::slots::{copy_row, find_row, keep_row};
-use trees::{Spot, Tree, step_back};
+use crate::slots::{keep_row, slot_words};
+use trees::{Spot, Tree};
 
-// How many slots are used, and the slot of the row that was filled last; if that is no used slot, the row is in none.
-#[derive(Clone, Copy)]
-pub(crate) struct State {
+// The most slots that are used: finding a row among them costs little against making a step.
+const MAX_SLOTS: usize = 256;
+
+// Rows of bits in slots, and the steps between them.
+#[derive(Drop)]
+pub(crate) struct Memory<'w, 'm> {
+    pub tree: Tree<'w>,
+    // The rows, each in whole words.
+    pub rows: &'m mut [u32],
+    // For each slot and byte one more than the slot that this step leads to, and 0 if none is known.
+    pub next: &'m mut [u32],
+    pub slots: usize,
+    // How many slots have a row. The others hold anything.
     pub used: usize,
-    pub slot: usize,
+    ghost room: { Room tree.size rows.now next.now slots used },
+    ghost recalls: { ∥ Recalls tree rows.now next.now used ∥₁ },
 }
 
-// The step at a spot. If the row behind it is in a slot and its step by the byte is remembered, the row that this leads to is
-// copied; otherwise the step is made.
-pub(crate) fn step(
-    tree: &Tree,
-    rests: &mut [u32],
-    bits: &mut [u32],
-    spot: Spot,
-    rows: &mut [u32],
-    next: &mut [u32],
-    slots: usize,
-    state: State,
-) -> State
-    requires ready { Ready tree.now }
-    requires rests_room { tree.now.size ≤ 32 * length rests.old }
-    requires bits_room { spot.row + tree.now.size ≤ 32 * length bits.old }
-    requires small { spot.row + tree.now.size + 2 ^ 32 ≤ 2 ^ 64 }
-    requires room { Room tree.now.size rows.old next.old slots state.used }
-    requires recalls { Recalls tree.now rows.old next.old state.used }
-    requires known { Known tree.now.size rows.old bits.old (spot.row + tree.now.size) state }
-    requires behind { state.slot < state.used → spot.last ≡ false }
-    ensures steps { Steps tree.now spot bits.old bits.new 0 }
-    ensures remembers { Remembers tree.now rows.new next.new bits.new spot slots result }
-{
-    if state.slot < state.used {
-        let to = next[256 * state.slot + spot.byte as usize] as usize;
-        if to > 0 {
-            copy_row(tree.size, rows, to - 1, bits, spot.row);
-            return State {
-                used: state.used,
-                slot: to - 1,
-            };
+impl<'w, 'm> Memory<'w, 'm> {
+    ghost use Rattle.trees.specs.Rows.{Steps};
+    ghost use Rattle.recall.specs.Memory.{Known, KnownBehind, MadeStep, IsSameRoom, Takes, Notes};
+
+    // Nothing is remembered yet. The words may be of any number.
+    pub fn new(tree: Tree<'w>, words: &'m mut [u32]) -> Self
+        ensures tree { result.tree ≡ tree.entry }
+        ensures none { result.used ≡ 0 }
+    {
+        let width = slot_words(tree.size);
+        let slots = MAX_SLOTS.min(words.len().min(u32::MAX as usize) / (width + 256));
+        let (rows, next) = words.split_at_mut(slots * width);
+        bits::clear(rows);
+        Memory {
+            tree,
+            rows,
+            next,
+            slots,
+            used: 0,
         }
     }
-    step_back(tree, rests, bits, spot);
-    remember(tree, bits, spot, rows, next, slots, state)
-}
 
-// Keeps the row of a spot, whose step was made, in a slot, unless a slot has it already, and remembers the step.
-fn remember(
-    tree: &Tree,
-    bits: &[u32],
-    spot: Spot,
-    rows: &mut [u32],
-    next: &mut [u32],
-    slots: usize,
-    state: State,
-) -> State
-    requires ready { Ready tree.now }
-    requires small { spot.row + tree.now.size + 2 ^ 32 ≤ 2 ^ 64 }
-    requires room { Room tree.now.size rows.old next.old slots state.used }
-    requires recalls { Recalls tree.now rows.old next.old state.used }
-    requires made { MadeStep tree.now rows.old bits.now spot state }
-    ensures { Remembers tree.now rows.new next.new bits.now spot slots result }
-{
-    let used = state.used;
-    if used >= slots {
-        return State { used, slot: used };
+    // The step at a spot; `from` has the row behind it, if some slot has. If the step by its byte is remembered, the row that
+    // this leads to is copied; otherwise the step is made. Returns the slot that has the row of the spot.
+    pub fn step(
+        &mut self,
+        spot: &Spot<'_>,
+        rests: &mut [u32],
+        bits: &mut [u32],
+        from: Option<usize>,
+    ) -> Option<usize>
+        requires tree { spot.now.tree ≡ self.old.tree }
+        requires rests_room { spot.now.tree.size ≤ 32 * length rests.old }
+        requires bits_room { spot.now.row + spot.now.tree.size ≤ 32 * length bits.old }
+        requires behind { KnownBehind self.old bits.old spot.now from }
+        ensures tree { self.new.tree ≡ self.old.tree }
+        ensures steps { Steps spot.now bits.old bits.new 0 }
+        ensures known { Known self.new bits.new spot.now.row result }
+    {
+        if let Some(slot) = from {
+            if let Some(to) = self.recall(slot, spot.byte) {
+                self.copy(to, bits, spot.row);
+                return Some(to);
+            }
+        }
+        spot.step_back(rests, bits);
+        self.remember(spot, bits, from)
     }
-    keep_row(tree.size, bits, spot.row, rows, used);
-    let slot = find_row(tree.size, rows, used);
-    let after = take_slot(next, slot, used, slots);
-    note(next, state, spot.byte, slot, after);
-    State { used: after, slot }
-}
 
-// How many slots are used if the row is in `slot`: one more if that is the first slot behind the used ones, from which no
-// step is known yet. The last slot stays free to compare by.
-fn take_slot(next: &mut [u32], slot: usize, used: usize, slots: usize) -> usize
-    requires inside { used < slots }
-    requires long { 256 * slots ≤ length next.old }
-    ensures { Takes next.old next.new used slots result }
-{
-    if slot < used || used + 1 >= slots {
-        return used;
+    // Where the byte leads from a slot, if that is remembered.
+    fn recall(&self, from: usize, byte: u8) -> Option<usize>
+        requires inside { from < self.now.used }
+        ensures { IfSome result (λ to. (to < self.now.used) × Leads self.now.tree self.now.rows.now from byte to) }
+    {
+        let to = self.next[256 * from + byte as usize] as usize;
+        to.checked_sub(1)
     }
-    for byte in 0..256 {
-        next[256 * used + byte] = 0;
-    }
-    used + 1
-}
 
-// Remembers the step from the state's slot, if it has one, to `to`, if that is used.
-fn note(next: &mut [u32], state: State, byte: u8, to: usize, after: usize)
-    requires inside { state.slot < state.used → 256 * state.slot + 256 ≤ length next.old }
-    requires few { to < after → to + 1 < 2 ^ 32 }
-    ensures { Notes next.old next.new state byte to after }
-{
-    if state.slot < state.used && to < after {
-        next[256 * state.slot + byte as usize] = to as u32 + 1;
+    // Copies the row of a used slot to the bit `row` and behind it, a word at a time.
+    fn copy(&self, slot: usize, bits: &mut [u32], row: usize)
+        requires inside { slot < self.now.used }
+        requires room { row + self.now.tree.size ≤ 32 * length bits.old }
+        requires small { row + self.now.tree.size + 2 ^ 32 ≤ 2 ^ 64 }
+        ensures { Copies self.now.tree.size self.now.rows.now slot bits.old bits.new row self.now.tree.size }
+    {
+        let first = slot * slot_words(self.tree.size);
+        let whole = self.tree.size / 32;
+        for (word, &value) in self.rows[first..first + whole].iter().enumerate() {
+            bits::put_bits(bits, row + 32 * word, 32, value);
+        }
+        let rest = self.tree.size % 32;
+        if rest > 0 {
+            let value = self.rows[first + whole] % (1 << rest);
+            bits::put_bits(bits, row + 32 * whole, rest, value);
+        }
+    }
+
+    // Keeps the row of a spot, whose step was made, in a slot, unless a slot has it already, and remembers the step.
+    fn remember(&mut self, spot: &Spot<'_>, bits: &[u32], from: Option<usize>) -> Option<usize>
+        requires tree { spot.now.tree ≡ self.old.tree }
+        requires made { MadeStep self.old bits.now spot.now from }
+        ensures tree { self.new.tree ≡ self.old.tree }
+        ensures known { Known self.new bits.now spot.now.row result }
+    {
+        if self.used >= self.slots {
+            return None;
+        }
+        self.keep(bits, spot.row);
+        let to = self.place()?;
+        if let Some(slot) = from {
+            self.note(slot, spot.byte, to);
+        }
+        Some(to)
+    }
+
+    // Keeps the row that begins at a bit in the first slot behind the used ones.
+    fn keep(&mut self, bits: &[u32], row: usize)
+        requires free { self.old.used < self.old.slots }
+        requires small { row + self.old.tree.size + 2 ^ 32 ≤ 2 ^ 64 }
+        ensures room { IsSameRoom self.old self.new }
+        ensures used { self.new.used ≡ self.old.used }
+        ensures keeps { Keeps self.old.tree.size bits.now row self.old.rows.now self.new.rows.now self.old.used self.old.tree.size }
+    {
+        keep_row(self.tree.size, bits, row, self.rows, self.used);
+    }
+
+    // A used slot for the row that stands in the first slot behind the used ones: one that has the same row, or that slot
+    // itself. There is none if it has to stay free.
+    fn place(&mut self) -> Option<usize>
+        requires free { self.old.used < self.old.slots }
+        ensures room { IsSameRoom self.old self.new }
+        ensures rows { self.new.rows.now ≡ self.old.rows.now }
+        ensures more { self.old.used ≤ self.new.used }
+        ensures inside { IfSome result (λ slot. slot < self.new.used) }
+        ensures same { IfSome result (λ slot. SameSlots self.old.tree.size self.old.rows.now slot self.old.used) }
+    {
+        match self.find() {
+            Some(slot) => Some(slot),
+            None => self.take(),
+        }
+    }
+
+    // The first used slot that has the same words as the slot behind the used ones.
+    fn find(&self) -> Option<usize>
+        requires free { self.now.used < self.now.slots }
+        ensures { IfSome result (Finds self.now.tree.size self.now.rows.now self.now.used) }
+    {
+        let words = slot_words(self.tree.size);
+        let (used, behind) = self.rows.split_at(self.used * words);
+        let row = &behind[..words];
+        used.chunks(words).position(|other| other == row)
+    }
+
+    // Takes the first slot behind the used ones, from which no step is known yet. The last slot stays free to compare by.
+    fn take(&mut self) -> Option<usize>
+        requires free { self.old.used < self.old.slots }
+        ensures room { IsSameRoom self.old self.new }
+        ensures rows { self.new.rows.now ≡ self.old.rows.now }
+        ensures taken { IfSome result (λ slot. (slot ≡ self.old.used) × (slot < self.new.used)) }
+        ensures takes { Takes self.old.next.now self.new.next.now self.old.used self.old.slots self.new.used }
+    {
+        let slot = self.used;
+        if slot + 1 >= self.slots {
+            return None;
+        }
+        self.next[256 * slot..256 * slot + 256].fill(0);
+        self.used += 1;
+        Some(slot)
+    }
+
+    // Remembers the step from a slot by a byte to another slot.
+    fn note(&mut self, slot: usize, byte: u8, to: usize)
+        requires inside { slot < self.old.used }
+        requires there { to < self.old.used }
+        requires leads { Leads self.old.tree self.old.rows.now slot byte to }
+        ensures room { IsSameRoom self.old self.new }
+        ensures used { self.new.used ≡ self.old.used }
+        ensures rows { self.new.rows.now ≡ self.old.rows.now }
+        ensures notes { Notes self.old.next.now self.new.next.now slot byte to }
+    {
+        self.next[256 * slot + byte as usize] = to as u32 + 1;
     }
 }

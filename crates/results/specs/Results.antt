@@ -1,11 +1,11 @@
 -- What comes of a call in the memory of a program: the text that is wanted, or why there is none.
-use Rattle.std.specs.Prelude.{◌≡◌, ℕ, ◌+◌, ◌<◌, List, length, take}
+use Rattle.std.specs.Prelude.{◌≡◌, ℕ, ◌+◌, ◌<◌, List, Ok, Err, length, take}
 use Rattle.lens.specs.Forms.{Text}
 use Rattle.lens.specs.Views.{View}
 use Rattle.lens.specs.Clear.{Clear}
 use Rattle.rows.specs.Rows.{Encodes}
-use Rattle.views.specs.declared.made.Made.{Made}
-use Rattle.views.specs.declared.made.Made.TheVariants.{Done, Muddy, NoSuch, NoSource, NoLook, Full, Small}
+use Rattle.views.specs.Made.{Made}
+use Rattle.views.specs.declared.made.Refused.TheVariants.{Muddy, NoSuch, NoSource, NoLook, Full, Small}
 use Rattle.results.specs.declared.calling.Unmade.{Unmade}
 use Rattle.results.specs.declared.calling.Unmade.TheVariants as un
 use Rattle.results.specs.Room.{limit, need}
@@ -36,20 +36,15 @@ Unlent n t un.Memory = Unit {0}
 
 -- The text x that an answer leaves of the bytes o that were lent.
 abbrev pub Leaves : Made → List ℕ → Text → Type 0
-Leaves (Done n) o x = x ≡ take n o
-Leaves Muddy o x = ⊥
-Leaves NoSuch o x = ⊥
-Leaves NoSource o x = ⊥
-Leaves NoLook o x = ⊥
-Leaves Full o x = ⊥
-Leaves Small o x = ⊥
+Leaves (Ok n) o x = x ≡ take n o
+Leaves (Err why) o x = ⊥
 
 -- Why it leaves none, of so many bytes.
 abbrev pub LeavesNone : Made → ℕ → Unmade → Type 0
-LeavesNone (Done n) k why = ⊥
-LeavesNone Muddy k why = why ≡ un.Unclear
-LeavesNone NoSuch k why = why ≡ un.NoRow
-LeavesNone NoSource k why = why ≡ un.NoSource
-LeavesNone NoLook k why = why ≡ un.NoLook
-LeavesNone Full k why = why ≡ un.Long k
-LeavesNone Small k why = why ≡ un.Memory
+LeavesNone (Ok n) k why = ⊥
+LeavesNone (Err Muddy) k why = why ≡ un.Unclear
+LeavesNone (Err NoSuch) k why = why ≡ un.NoRow
+LeavesNone (Err NoSource) k why = why ≡ un.NoSource
+LeavesNone (Err NoLook) k why = why ≡ un.NoLook
+LeavesNone (Err Full) k why = why ≡ un.Long k
+LeavesNone (Err Small) k why = why ≡ un.Memory

@@ -1,7 +1,8 @@
 // The memory of a program: all that it holds while a call runs is at most 16 MiB. The text of a view is let go before.
 ghost use Rattle.std.specs.Prelude.{◌≡◌, ◌+◌, MatchOption};
-ghost use Rattle.views.specs.Room.{room_for};
 ghost use Rattle.results.specs.Room.{need as needed, Lends, Lacks};
+
+use views::work_words;
 
 // The bytes of all buffers together.
 pub const LIMIT: usize = 16 * 1024 * 1024;
@@ -13,20 +14,11 @@ pub struct Lent {
     pub out: usize,
 }
 
-// The work words that a call on a row and texts of so many bytes wants.
-fn words(row: usize, texts: usize) -> u128
-    ensures { result ≡ room_for row texts }
-{
-    let counted = row.min(1025) as u128;
-    let cells = (1 + counted) * (1 + texts as u128);
-    4096 + counted * counted + (64 + cells / 8)
-}
-
-// The bytes that such a call needs, beside those of its result.
+// The bytes that a call on a row and texts of so many bytes needs, beside those of its result.
 pub fn need(row: usize, texts: usize) -> u128
     ensures { result ≡ needed row texts }
 {
-    row as u128 + texts as u128 + 4 * words(row, texts)
+    row as u128 + texts as u128 + 4 * work_words(row, texts)
 }
 
 // What can be lent to it: the work words that it wants, and for the result every byte that is left.
@@ -38,7 +30,7 @@ pub fn lend(row: usize, texts: usize) -> Option<Lent>
         return None;
     }
     Some(Lent {
-        words: words(row, texts) as usize,
+        words: work_words(row, texts) as usize,
         out: LIMIT - need as usize,
     })
 }

@@ -4,15 +4,16 @@ use mathlib.Core.List.{List}
 use Prim.Native.Nat.{ℕ, ◌+◌, ◌≤◌}
 use native.Mathlib.Omega.{arith}
 use lib.ListN.{length, take, length-take}
+use Rattle.std.specs.Prelude.{Ok, Err}
 use Rattle.lens.specs.Forms.{Text}
 use Rattle.lens.specs.Views.{Shows, Puts}
 use Rattle.lens.proofs.Works.{clear_works}
 use Rattle.lens.proofs.Lawful.{clear_lawful}
 use Rattle.rows.proofs.Unique.{one_view}
-use Rattle.views.specs.declared.made.Made.{Made}
-use Rattle.views.specs.declared.made.Made.TheVariants.{Done, Muddy, NoSuch, NoSource, NoLook, Full, Small}
+use Rattle.views.specs.declared.made.Refused.{Refused}
+use Rattle.views.specs.declared.made.Refused.TheVariants.{Muddy, NoSuch, NoSource, NoLook, Full, Small}
 use Rattle.views.specs.Room.{room}
-use Rattle.views.specs.Made.{Written, ShownSays, ShownPost}
+use Rattle.views.specs.Made.{Made, Written, ShownSays, ShownPost}
 use Rattle.views.specs.Put.{PutSays, PutPost}
 use Rattle.round_trips.specs.Trips.{Unchanged, Seen}
 use Rattle.round_trips.proofs.Certain.{room_more, shown_done, put_done}
@@ -22,39 +23,40 @@ pub written_within : {t : Text} {o o' : List ℕ} {n : ℕ} → Written t o o' n
 written_within {o' = o'} {n} w = omega (arith, w.long, ap length w.front, length-take n o')
 
 -- Answers other than done write nothing.
-shown_kept : (s : List ℕ) (a : Text) {o o' : List ℕ} (r : Made) → ShownSays s a o o' r → ((n : ℕ) → r ≡ Done n → ⊥) → o' ≡ o
-shown_kept s a (Done n) h not_done = absurd (not_done n refl)
-shown_kept s a Muddy (v, e, unclear, kept) not_done = kept
-shown_kept s a NoSuch (none, kept) not_done = kept
-shown_kept s a NoSource (v, e, c, none, kept) not_done = kept
-shown_kept s a NoLook never not_done = absurd never
-shown_kept s a Full (v, u, e, c, sh, longer, kept) not_done = kept
-shown_kept s a Small kept not_done = kept
+shown_kept : (s : List ℕ) (a : Text) {o o' : List ℕ} (r : Made) → ShownSays s a o o' r → ((n : ℕ) → r ≡ Ok n → ⊥) → o' ≡ o
+shown_kept s a (Ok n) h not_done = absurd (not_done n refl)
+shown_kept s a (Err Muddy) (v, e, unclear, kept) not_done = kept
+shown_kept s a (Err NoSuch) (none, kept) not_done = kept
+shown_kept s a (Err NoSource) (v, e, c, none, kept) not_done = kept
+shown_kept s a (Err NoLook) never not_done = absurd never
+shown_kept s a (Err Full) (v, u, e, c, sh, longer, kept) not_done = kept
+shown_kept s a (Err Small) kept not_done = kept
 
-put_kept : (s : List ℕ) (a b : Text) {o o' : List ℕ} (r : Made) → PutSays s a b o o' r → ((n : ℕ) → r ≡ Done n → ⊥) → o' ≡ o
-put_kept s a b (Done n) h not_done = absurd (not_done n refl)
-put_kept s a b Muddy (v, e, unclear, kept) not_done = kept
-put_kept s a b NoSuch (none, kept) not_done = kept
-put_kept s a b NoSource (v, e, c, none, kept) not_done = kept
-put_kept s a b NoLook (v, e, c, fine, none, kept) not_done = kept
-put_kept s a b Full (v, x, e, c, p, longer, kept) not_done = kept
-put_kept s a b Small kept not_done = kept
+put_kept : (s : List ℕ) (a b : Text) {o o' : List ℕ} (r : Made) → PutSays s a b o o' r → ((n : ℕ) → r ≡ Ok n → ⊥) → o' ≡ o
+put_kept s a b (Ok n) h not_done = absurd (not_done n refl)
+put_kept s a b (Err Muddy) (v, e, unclear, kept) not_done = kept
+put_kept s a b (Err NoSuch) (none, kept) not_done = kept
+put_kept s a b (Err NoSource) (v, e, c, none, kept) not_done = kept
+put_kept s a b (Err NoLook) (v, e, c, fine, none, kept) not_done = kept
+put_kept s a b (Err Full) (v, x, e, c, p, longer, kept) not_done = kept
+put_kept s a b (Err Small) kept not_done = kept
 
 -- Shown, and put back
 
 module _ {s : List ℕ} {a : Text} {p p' : List ℕ} {w : ℕ} where
   -- Not shown, so nothing is put back.
-  pub unchanged_refused : {o : List ℕ} {r : Made} → ShownPost s a p p' w r → ((n : ℕ) → r ≡ Done n → ⊥) → Unchanged s a (length p) o o w r
-  unchanged_refused {r = r} shown not_done = record {
-    same = λ n is. absurd (not_done n is);
+  pub unchanged_refused : {o : List ℕ} {why : Refused} → ShownPost s a p p' w (Err why) → Unchanged s a (length p) o o w (Err why)
+  unchanged_refused {why = why} shown = record {
+    same = λ n is. cc;
     refused = λ _. refl;
     done = λ v u e c shows fits room' enough.
         let more = room_more s (length a) (length a + length u) (omega arith) in
-        absurd (not_done (length u) (shown_done e c shows shown fits (omega arith)));
+        let done = shown_done e c shows shown fits (omega arith) in
+        cc;
   }
 
   -- What was shown is put back: the source is what comes of it.
-  pub unchanged_put : {b : Text} {o o' : List ℕ} {m w' : ℕ} {r : Made} → ShownSays s a p p' (Done m) → b ≡ take m p' → w' ≡ w →
+  pub unchanged_put : {b : Text} {o o' : List ℕ} {m w' : ℕ} {r : Made} → ShownSays s a p p' (Ok m) → b ≡ take m p' → w' ≡ w →
       PutPost s a b o o' w' r → Unchanged s a (length p) o o' w r
   unchanged_put {b} {o} {o'} {m} {r = r} (v, u, e, c, shows, written) is long put' = record {
     same = λ n done. back n (subst (λ r. PutSays s a b o o' r) done put.says);
@@ -74,7 +76,7 @@ module _ {s : List ℕ} {a : Text} {p p' : List ℕ} {w : ℕ} where
       puts : Puts v b a a
       puts = subst (λ b. Puts v b a a) (sym looks) ((clear_lawful v c).shown_puts a u shows)
 
-      back : (n : ℕ) → PutSays s a b o o' (Done n) → Written a o o' n
+      back : (n : ℕ) → PutSays s a b o o' (Ok n) → Written a o o' n
       back n (k, x, e', c', p, out) =
           let same = (clear_works v c).puts_one b a x a (subst (λ k. Puts k b a x) (one_view s k v e' e) p) puts in
           subst (λ x. Written x o o' n) same out
@@ -82,16 +84,17 @@ module _ {s : List ℕ} {a : Text} {p p' : List ℕ} {w : ℕ} where
 -- Put back, and shown
 
 module _ {s : List ℕ} {a b : Text} {p p' : List ℕ} {w : ℕ} where
-  pub seen_refused : {o : List ℕ} {r : Made} → PutPost s a b p p' w r → ((n : ℕ) → r ≡ Done n → ⊥) → Seen s a b (length p) o o w r
-  seen_refused {r = r} put not_done = record {
-    same = λ n is. absurd (not_done n is);
+  pub seen_refused : {o : List ℕ} {why : Refused} → PutPost s a b p p' w (Err why) → Seen s a b (length p) o o w (Err why)
+  seen_refused {why = why} put = record {
+    same = λ n is. cc;
     refused = λ _. refl;
     done = λ v x e c puts fits room' enough enough'.
-        absurd (not_done (length x) (put_done e c puts put fits enough));
+        let done = put_done e c puts put fits enough in
+        cc;
   }
 
   -- What comes of it is shown: it looks like the look that was put back.
-  pub seen_shown : {x : Text} {o o' : List ℕ} {m w' : ℕ} {r : Made} → PutSays s a b p p' (Done m) → x ≡ take m p' → w' ≡ w →
+  pub seen_shown : {x : Text} {o o' : List ℕ} {m w' : ℕ} {r : Made} → PutSays s a b p p' (Ok m) → x ≡ take m p' → w' ≡ w →
       ShownPost s x o o' w' r → Seen s a b (length p) o o' w r
   seen_shown {x} {o} {o'} {m} {r = r} (v, y, e, c, puts, written) is long shown' = record {
     same = λ n done. back n (subst (λ r. ShownSays s x o o' r) done shown.says);
@@ -111,7 +114,7 @@ module _ {s : List ℕ} {a b : Text} {p p' : List ℕ} {w : ℕ} where
       shows : Shows v x b
       shows = subst (λ x. Shows v x b) (sym makes) ((clear_lawful v c).put_shows b a y puts)
 
-      back : (n : ℕ) → ShownSays s x o o' (Done n) → Written b o o' n
+      back : (n : ℕ) → ShownSays s x o o' (Ok n) → Written b o o' n
       back n (k, u, e', c', sh, out) =
           let same = (clear_works v c).shows_one x u b (subst (λ k. Shows k x u) (one_view s k v e' e) sh) shows in
           subst (λ u. Written u o o' n) same out

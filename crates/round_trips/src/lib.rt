@@ -17,10 +17,7 @@ pub fn show_then_put(
 ) -> Made
     ensures { Unchanged view.now source.now (length page.old) out.old out.new (length work.old) result }
 {
-    let shown = show(view, source, page, work);
-    let Made::Done(len) = shown else {
-        return shown;
-    };
+    let len = show(view, source, page, work)?;
     put(view, source, &page[..len], out, work)
 }
 
@@ -35,9 +32,6 @@ pub fn put_then_show(
 ) -> Made
     ensures { Seen view.now source.now look.now (length fresh.old) out.old out.new (length work.old) result }
 {
-    let made = put(view, source, look, fresh, work);
-    let Made::Done(len) = made else {
-        return made;
-    };
+    let len = put(view, source, look, fresh, work)?;
     show(view, &fresh[..len], out, work)
 }

@@ -7,34 +7,24 @@ ghost use Rattle.rows.specs.Reads.{IsView, PartEnd};
 
 mod nodes;
 mod parts;
+mod row;
 
 pub use nodes::{FormNode, ViewNode, form_node, view_node};
 pub use parts::Kind;
-
-// The most bytes that a row may have.
-pub const MAX_ROW: usize = 1024;
+pub use row::{MAX_ROW, Row};
 
 // Whether these bytes say a view.
-pub fn is_view(row: &[u8]) -> bool
-    ensures { IsView row.now result }
+pub fn is_view(bytes: &[u8]) -> bool
+    ensures { IsView bytes.now result }
 {
-    if row.len() > MAX_ROW {
-        return false;
-    }
-    match parts::part_end(row, 0, Kind::View) {
-        Some(end) => end == row.len(),
-        None => false,
-    }
+    Row::of_view(bytes).is_some()
 }
 
-// Where the part that begins at `at` ends, or none. The bound on the row bounds the recursion.
-pub fn part_end(row: &[u8], at: usize, kind: Kind) -> Option<usize>
-    ensures { PartEnd kind row.now at result }
+// Where the part that begins at `at` ends, or none: no such part begins there, or the bytes are too many for a row.
+pub fn part_end(bytes: &[u8], at: usize, kind: Kind) -> Option<usize>
+    ensures { PartEnd kind bytes.now at result }
 {
-    if row.len() > MAX_ROW {
-        return None;
-    }
-    parts::part_end(row, at, kind)
+    Row::new(bytes)?.part_end(at, kind)
 }
 
 // The row of a worked view. It does nothing: its contract is the theorem.

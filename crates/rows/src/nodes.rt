@@ -24,7 +24,7 @@ pub enum ViewNode {
     Each(usize),
 }
 
-// The node of a form at `at`, or none: no form begins there.
+// The node of a form at `at`, or none: no form begins there. A tag is a byte of the format.
 pub fn form_node(row: &[u8], at: usize) -> Option<FormNode>
     ensures { IsFormNode row.now at result }
 {
@@ -57,7 +57,7 @@ fn range_node(row: &[u8], at: usize) -> Option<FormNode>
     if low <= high { Some(range) } else { None }
 }
 
-// The node of a view at `at`, or none: no view begins there.
+// The node of a view at `at`, or none: no view begins there. A tag is a byte of the format.
 pub fn view_node(row: &[u8], at: usize) -> Option<ViewNode>
     ensures { IsViewNode row.now at result }
 {

@@ -4,10 +4,7 @@
 use std::process::ExitCode;
 
 fn main(rt: HostRuntime) -> ExitCode {
-    let look = match commands::arguments(&rt) {
-        Ok(args) => commands::show(&rt, &args),
-        Err(refusal) => Err(refusal),
-    };
+    let look = commands::arguments(&rt).and_then(|args| commands::show(&rt, &args));
     match commands::deliver(&rt, look) {
         Ok(()) => ExitCode::SUCCESS,
         Err(_) => ExitCode::FAILURE,

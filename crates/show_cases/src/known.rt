@@ -2,14 +2,14 @@
 // a pattern, so that a byte which is written and shouldn't be is seen.
 use crate::{call, room};
 use std::alloc::{AllocError, Global};
-use views::Made;
+use views::{Made, Refused, Side};
 
 // A view in notation, a text, and what it shows or makes.
 #[derive(Drop)]
 pub struct Known {
     pub name: &'static str,
     pub view: String,
-    pub shown: bool,
+    pub side: Side,
     pub text: Vec<u8>,
     pub result: Vec<u8>,
 }
@@ -20,12 +20,13 @@ impl Known {
     pub fn holds(&self, heap: Global, row: &[u8]) -> Result<bool, AllocError> {
         let len = self.result.len();
         let words = room(row.len(), self.text.len());
-        let done = Made::Done(len);
+        let done = Ok(len);
         Ok(
             self.answers(heap, row, len.saturating_add(99), words, done)?
                 && self.answers(heap, row, len, words, done)?
-                && (len == 0 || self.answers(heap, row, len.saturating_sub(1), words, Made::Full)?)
-                && self.answers(heap, row, len, words.saturating_sub(1), Made::Small)?,
+                && (len == 0
+                    || self.answers(heap, row, len.saturating_sub(1), words, Err(Refused::Full))?)
+                && self.answers(heap, row, len, words.saturating_sub(1), Err(Refused::Small))?,
         )
     }
 
@@ -40,13 +41,13 @@ impl Known {
     ) -> Result<bool, AllocError> {
         let mut out = pattern(heap, bytes)?;
         let mut after = pattern(heap, bytes)?;
-        if let Made::Done(_) = answer {
+        if answer.is_ok() {
             for (place, byte) in after.iter_mut().zip(self.result.iter()) {
                 *place = *byte;
             }
         }
         let mut work = vec![in heap; 7u32; words]?;
-        let made = call(self.shown, row, &self.text, &mut out, &mut work);
+        let made = call(self.side, row, &self.text, &mut out, &mut work);
         Ok(made == answer && out == after)
     }
 }
@@ -62,19 +63,18 @@ fn pattern(heap: Global, len: usize) -> Result<Vec<u8>, AllocError> {
 }
 
 // A megabyte of catalogue shown, or made from its page.
-pub fn megabyte(heap: Global, shown: bool) -> Result<Known, AllocError> {
+pub fn megabyte(heap: Global, side: Side) -> Result<Known, AllocError> {
     let view =
         "each (copy ('0'..'9')+ \";\" hide (not \";\\n\")* new \"none\" \";\" copy (not \"\\n\")* \"\\n\")";
     let page = lines(heap, "")?;
-    let (name, text, result) = if shown {
-        ("a megabyte shown", lines(heap, "Family Aro")?, page)
-    } else {
-        ("a megabyte made", page, lines(heap, "none")?)
+    let (name, text, result) = match side {
+        Side::Source => ("a megabyte shown", lines(heap, "Family Aro")?, page),
+        Side::Look => ("a megabyte made", page, lines(heap, "none")?),
     };
     Ok(Known {
         name,
         view: String::from_str(heap, view)?,
-        shown,
+        side,
         text,
         result,
     })
@@ -91,7 +91,7 @@ fn lines(heap: Global, lender: &str) -> Result<Vec<u8>, AllocError> {
 }
 
 // A view with a row of 1,024 bytes: 254 of one letter are copied, and one of another is hidden.
-pub fn longest_view(heap: Global, shown: bool) -> Result<Known, AllocError> {
+pub fn longest_view(heap: Global, side: Side) -> Result<Known, AllocError> {
     let mut letters = String::new(heap);
     for _ in 0..254 {
         letters.push('x')?;
@@ -100,51 +100,48 @@ pub fn longest_view(heap: Global, shown: bool) -> Result<Known, AllocError> {
     let look = letters.clone()?.into_bytes();
     letters.push('a')?;
     let source = letters.into_bytes();
-    let (name, text, result) = if shown {
-        ("the longest view shows", source, look)
-    } else {
-        ("the longest view makes", look, source)
+    let (name, text, result) = match side {
+        Side::Source => ("the longest view shows", source, look),
+        Side::Look => ("the longest view makes", look, source),
     };
     Ok(Known {
         name,
         view,
-        shown,
+        side,
         text,
         result,
     })
 }
 
 // Every byte, copied.
-pub fn every_byte(heap: Global, shown: bool) -> Result<Known, AllocError> {
+pub fn every_byte(heap: Global, side: Side) -> Result<Known, AllocError> {
     Ok(Known {
-        name: if shown {
-            "every byte copied, shown"
-        } else {
-            "every byte copied, made"
+        name: match side {
+            Side::Source => "every byte copied, shown",
+            Side::Look => "every byte copied, made",
         },
         view: String::from_str(heap, "copy any*")?,
-        shown,
+        side,
         text: all_bytes(heap)?,
         result: all_bytes(heap)?,
     })
 }
 
 // Every byte, each hidden behind a mark.
-pub fn every_byte_hidden(heap: Global, shown: bool) -> Result<Known, AllocError> {
+pub fn every_byte_hidden(heap: Global, side: Side) -> Result<Known, AllocError> {
     let marks = vec![in heap; b'.'; 256]?;
-    let (name, text, result) = if shown {
-        ("every byte hidden, shown", all_bytes(heap)?, marks)
-    } else {
-        (
+    let (name, text, result) = match side {
+        Side::Source => ("every byte hidden, shown", all_bytes(heap)?, marks),
+        Side::Look => (
             "every byte hidden, made",
             marks,
             vec![in heap; 0xffu8; 256]?,
-        )
+        ),
     };
     Ok(Known {
         name,
         view: String::from_str(heap, "each (hide any as \".\" new \"\\xff\")")?,
-        shown,
+        side,
         text,
         result,
     })
@@ -165,7 +162,9 @@ pub fn bytes_apart(heap: Global) -> Result<usize, AllocError> {
     for byte in 0..=255u8 {
         let opposite = 255 - byte;
         let row = [11, 1, byte, byte, 1, opposite, 1, byte];
-        if turns(heap, &row, true, byte, opposite)? && turns(heap, &row, false, opposite, byte)? {
+        if turns(heap, &row, Side::Source, byte, opposite)?
+            && turns(heap, &row, Side::Look, opposite, byte)?
+        {
             right = right.saturating_add(1);
         }
     }
@@ -173,19 +172,21 @@ pub fn bytes_apart(heap: Global) -> Result<usize, AllocError> {
 }
 
 // Whether of all bytes the view turns `from` into `to`, and no other into anything.
-fn turns(heap: Global, row: &[u8], shown: bool, from: u8, to: u8) -> Result<bool, AllocError> {
+fn turns(heap: Global, row: &[u8], side: Side, from: u8, to: u8) -> Result<bool, AllocError> {
+    let missing = match side {
+        Side::Source => Refused::NoSource,
+        Side::Look => Refused::NoLook,
+    };
     let mut work = vec![in heap; 7u32; room(row.len(), 1)]?;
     let mut right = true;
     for byte in 0..=255u8 {
         let mut out = [46u8; 2];
-        let made = call(shown, row, &[byte], &mut out, &mut work);
+        let made = call(side, row, &[byte], &mut out, &mut work);
         right = right
             && if byte == from {
-                made == Made::Done(1) && out == [to, 46]
-            } else if shown {
-                made == Made::NoSource && out == [46, 46]
+                made == Ok(1) && out == [to, 46]
             } else {
-                made == Made::NoLook && out == [46, 46]
+                made == Err(missing) && out == [46, 46]
             };
     }
     Ok(right)

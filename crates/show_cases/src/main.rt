@@ -3,129 +3,131 @@
 #![tactic(auto)]
 
 mod known;
+mod told;
 
 use known::Known;
 use std::alloc::{AllocError, Global};
 use std::io;
-use views::Made;
+use told::Told;
+use views::{Made, Side};
 
 // A view in notation, a text, and the side that the text is of.
 struct Case {
     view: &'static str,
     text: &'static str,
-    shown: bool,
+    side: Side,
 }
 
 const CASES: [Case; 22] = [
     Case {
         view: "copy ('0'..'9')* hide 'a'..'z' new \"x\"",
         text: "12a",
-        shown: true,
+        side: Side::Source,
     },
     Case {
         view: "copy ('0'..'9')* hide 'a'..'z' new \"x\"",
         text: "1",
-        shown: false,
+        side: Side::Look,
     },
     Case {
         view: "copy ('0'..'9')* hide 'a'..'z' new \"x\"",
         text: "12",
-        shown: true,
+        side: Side::Source,
     },
     Case {
         view: "each (copy '0'..'9' hide 'a'..'z' new \"x\")",
         text: "1a2b",
-        shown: true,
+        side: Side::Source,
     },
     Case {
         view: "each (copy '0'..'9' hide 'a'..'z' new \"x\")",
         text: "132",
-        shown: false,
+        side: Side::Look,
     },
     Case {
         view: "each (copy '0'..'9' hide 'a'..'z' new \"x\")",
         text: "",
-        shown: true,
+        side: Side::Source,
     },
     Case {
         view: "swap (copy '0'..'9') (copy 'a'..'z')",
         text: "1a",
-        shown: true,
+        side: Side::Source,
     },
     Case {
         view: "swap (copy '0'..'9') (copy 'a'..'z')",
         text: "b2",
-        shown: false,
+        side: Side::Look,
     },
     Case {
         view: "swap (copy '0'..'9') (copy 'a'..'z')",
         text: "b2",
-        shown: true,
+        side: Side::Source,
     },
     Case {
         view: "each (hide 'a'..'z' as \".\" new \"x\")",
         text: "ab",
-        shown: true,
+        side: Side::Source,
     },
     Case {
         view: "each (hide 'a'..'z' as \".\" new \"x\")",
         text: "...",
-        shown: false,
+        side: Side::Look,
     },
     Case {
         view: "hide 'a' as \"A\" new \"a\" | hide 'b' as \"B\" new \"b\"",
         text: "a",
-        shown: true,
+        side: Side::Source,
     },
     Case {
         view: "hide 'a' as \"A\" new \"a\" | hide 'b' as \"B\" new \"b\"",
         text: "B",
-        shown: false,
+        side: Side::Look,
     },
     Case {
         view: "copy (\"\" | 'b')*",
         text: "b",
-        shown: true,
+        side: Side::Source,
     },
     Case {
         view: "copy (\"\" | 'b')*",
         text: "",
-        shown: true,
+        side: Side::Source,
     },
     Case {
         view: "hide 'a'* as \"longer than it\" new \"\"",
         text: "",
-        shown: true,
+        side: Side::Source,
     },
     Case {
         view: "hide 'a'* as \"longer than it\" new \"\"",
         text: "aa",
-        shown: true,
+        side: Side::Source,
     },
     Case {
         view: "copy 'a'* copy 'a'*",
         text: "aa",
-        shown: true,
+        side: Side::Source,
     },
     Case {
         view: "swap (swap (copy 'a'*) (copy 'b'+)) (swap (copy 'c') (copy 'd'*))",
         text: "aabcdd",
-        shown: true,
+        side: Side::Source,
     },
     Case {
         view: "swap (swap (copy 'a'*) (copy 'b'+)) (swap (copy 'c') (copy 'd'*))",
         text: "ddcbaa",
-        shown: false,
+        side: Side::Look,
     },
     Case {
         view: "each (copy (not \";\\n\")* \";\" hide (not \";\\n\")* new \"\" \";\" copy (not \"\\n\")* \"\\n\")",
         text: "7;Ann;a;b\n8;;\n",
-        shown: true,
+        side: Side::Source,
     },
     Case {
         view: "each (copy (not \";\\n\")* \";\" hide (not \";\\n\")* new \"\" \";\" copy (not \"\\n\")* \"\\n\")",
         text: "7;;a;b\n9;;new\n",
-        shown: false,
+        side: Side::Look,
     },
 ];
 
@@ -138,23 +140,27 @@ fn main(rt: HostRuntime) -> io::Result<()> {
         let text = case.text.as_bytes();
         let view = case.view;
         let said = case.text;
-        let verb = if case.shown { "shows" } else { "makes" };
+        let verb = match case.side {
+            Side::Source => "shows",
+            Side::Look => "makes",
+        };
         println!(rt; "{view}")?;
         let room = room(row.len(), text.len());
         let mut work = vec![in rt.alloc(); 7u32; room]?;
         let mut out = [46u8; 24];
-        let made = call(case.shown, &row, text, &mut out, &mut work);
+        let made = call(case.side, &row, text, &mut out, &mut work);
         let left = rest(rt.alloc(), &out)?;
-        println!(rt; "  {said:?} {verb} {made:?}: {left:?}")?;
-        if let Made::Done(n) = made {
-            edges(&rt, case.shown, &row, text, n)?;
+        let told = Told(made);
+        println!(rt; "  {said:?} {verb} {told}: {left:?}")?;
+        if let Ok(n) = made {
+            edges(&rt, case.side, &row, text, n)?;
         }
     }
-    for shown in [true, false] {
-        hold(&rt, known::megabyte(rt.alloc(), shown)?)?;
-        hold(&rt, known::longest_view(rt.alloc(), shown)?)?;
-        hold(&rt, known::every_byte(rt.alloc(), shown)?)?;
-        hold(&rt, known::every_byte_hidden(rt.alloc(), shown)?)?;
+    for side in [Side::Source, Side::Look] {
+        hold(&rt, known::megabyte(rt.alloc(), side)?)?;
+        hold(&rt, known::longest_view(rt.alloc(), side)?)?;
+        hold(&rt, known::every_byte(rt.alloc(), side)?)?;
+        hold(&rt, known::every_byte_hidden(rt.alloc(), side)?)?;
     }
     let right = known::bytes_apart(rt.alloc())?;
     println!(rt; "bytes that a view of one byte turns, and no other: {right}")
@@ -178,27 +184,26 @@ fn hold(rt: &HostRuntime, known: Known) -> io::Result<()> {
 }
 
 // The same call with one work word less, and with one lent byte less than the text takes, and with just as many.
-fn edges(rt: &HostRuntime, shown: bool, row: &[u8], text: &[u8], n: usize) -> io::Result<()> {
+fn edges(rt: &HostRuntime, side: Side, row: &[u8], text: &[u8], n: usize) -> io::Result<()> {
     let room = room(row.len(), text.len());
     let mut few = vec![in rt.alloc(); 7u32; room.saturating_sub(1)]?;
     let mut work = vec![in rt.alloc(); 7u32; room]?;
     let mut short = vec![in rt.alloc(); 46u8; n.saturating_sub(1)]?;
     let mut enough = vec![in rt.alloc(); 46u8; n]?;
-    let small = call(shown, row, text, &mut enough, &mut few);
-    let full = call(shown, row, text, &mut short, &mut work);
-    let done = call(shown, row, text, &mut enough, &mut work);
-    println!(rt; "  {small:?}, {full:?}, {done:?}")
+    let small = Told(call(side, row, text, &mut enough, &mut few));
+    let full = Told(call(side, row, text, &mut short, &mut work));
+    let done = Told(call(side, row, text, &mut enough, &mut work));
+    println!(rt; "  {small}, {full}, {done}")
 }
 
-fn call(shown: bool, row: &[u8], text: &[u8], out: &mut [u8], work: &mut [u32]) -> Made {
-    if shown {
-        views::show(row, text, out, work)
-    } else {
-        views::make(row, text, out, work)
+fn call(side: Side, row: &[u8], text: &[u8], out: &mut [u8], work: &mut [u32]) -> Made {
+    match side {
+        Side::Source => views::show(row, text, out, work),
+        Side::Look => views::make(row, text, out, work),
     }
 }
 
-// The work words that the call wants, by its own rule.
+// The work words that the call wants, counted here once more, since this is what holds the call's own count to its rule.
 fn room(view: usize, text: usize) -> usize {
     let n = view.min(1025);
     let cells = (n + 1).saturating_mul(text.saturating_add(1));

@@ -3,6 +3,8 @@ pub mod Words
 pub mod Decisions
 pub mod Begins
 pub mod Stacks
+pub mod Told
+pub mod Kept
 pub mod Within
 pub mod Right
 pub mod Marks

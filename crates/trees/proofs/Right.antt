@@ -1,26 +1,24 @@
 -- The rules of the passes are right: a bit that a rule makes means what it should, if the bits that it is made of do.
-use Rattle.std.proofs.Common.{◌≡◌, ℕ, ◌+◌, ◌<◌, ◌≤◌, Bool, ◌⊎◌, List, [], ◌∷◌, Decides, sym, refl, ap, ◌∙◌, inl, inr, zero-le, arith}
+use Rattle.std.proofs.Common.{◌≡◌, ℕ, ◌+◌, ◌<◌, ◌≤◌, Bool, List, [], ◌∷◌, Decides, sym, refl, ap, ◌∙◌, zero-le, arith}
 use Rattle.std.proofs.lemmas.Bool.Decides.{Decides-eqb, Decides-at, Decides-like, Decides-and, Decides-or}
 use Rattle.std.proofs.lemmas.Bool.{eq-eqb, ne_eqb, cond-true, cond-false}
-use Rattle.lens.specs.Forms.{Text, Form, or, Matches, is_empty, is_seq, is_left, is_right, is_none}
+use Rattle.lens.specs.Forms.{Text, Form, Matches, is_empty, is_seq, is_none}
 use Rattle.bits.specs.Bits.{bit}
 use Rattle.trees.specs.declared.nodes.Node.{Node}
 use Rattle.trees.specs.declared.nodes.Node.TheVariants.{Seq, Or, Many, Same, Byte}
-use Rattle.trees.specs.declared.tree.Tree.{Tree}
 use Rattle.trees.specs.declared.step.Spot.{Spot}
 use Rattle.trees.specs.Nodes.{node_at, EachPart, Under, Linked}
 use Rattle.trees.specs.Tree.{Stack, Grows, grows_empty, grows_one, grows_seq, grows_or, grows_many, grows_same, grows_byte, Fits, Begins, at_root, at_first, at_second, at_left, at_right, at_many, at_same, at_byte}
-use Rattle.trees.specs.Rows.{Stands, Nulls, Ready, Rests, Starts, Behind, row_at, row_behind}
+use Rattle.trees.specs.Ready.{Nulls, Ready}
+use Rattle.trees.specs.Rows.{Stands, Rests, Starts, Behind, row_at, row_behind}
 use Rattle.trees.specs.Rules.{null_rule, rest_rule, rest, start_rule, start}
 use Rattle.trees.proofs.Decisions.{decides_true, decides_false, decides_leb}
 use Rattle.trees.proofs.Begins.{one_not_empty, seq_empty_complete, or_empty_complete, fits_nil_sound, fits_nil_complete, fits_cons_sound, fits_cons_complete, fits_many_sound, fits_many_complete, begins_empty_complete, begins_one_sound, begins_one_complete, begins_seq_sound, begins_seq_complete, begins_or_sound, begins_or_complete, begins_many_sound, begins_many_complete, begins_byte_sound, begins_byte_complete}
-use Rattle.trees.proofs.Within.{at_grows, parts_of, at_within}
+use Rattle.trees.proofs.Told.{either}
+use Rattle.trees.proofs.Kept.{ready_of, stands_within}
+use Rattle.trees.proofs.Within.{at_grows, parts_of}
 
 -- The empty text
-
-either : {f g : Form} → Matches f [] ⊎ Matches g [] → Matches (or f g) []
-either (inl m) = is_left m
-either (inr m) = is_right m
 
 module _ {n : ℕ} {words : List ℕ} {null : ℕ → Bool} (linked : Linked n words) where
   part : {p q x : ℕ} {f : Form} → p ≤ q + 1 → Nulls n words null p → Under n words q x → Grows words x f →
@@ -47,35 +45,38 @@ module _ {n : ℕ} {words : List ℕ} {null : ℕ → Bool} (linked : Linked n w
       Decides-at _ _ (ap (null_rule null) e) (decides_false (λ m. one_not_empty (seq_empty_complete m).0))
 
 -- One step back. Behind the spot stands the text t.
-module _ (tree : Tree) (ready : Ready tree) (rests bits : List ℕ) (spot : Spot) (t : Text) (behind : Behind tree bits spot t) where
+module _ (rests bits : List ℕ) (spot : Spot) (t : Text) (behind : Behind bits spot t) where
+  ready : Ready spot.tree.words.now spot.tree.null.now spot.tree.size spot.tree.root
+  ready = ready_of spot.tree.ready
+
   abbrev Part : ℕ → ℕ → Type 0
-  Part q x = Under tree.size tree.words.now q x
+  Part q x = Under spot.tree.size spot.tree.words.now q x
 
-  parts : {q : ℕ} {f : Form} {σ : Stack} (made : Node) → Stands tree q f σ → node_at tree.words.now q ≡ made → EachPart (Part q) made
-  parts made at e = parts_of ready.linked made (at_within ready.linked ready.inside at).1 e
+  parts : {q : ℕ} {f : Form} {σ : Stack} (made : Node) → Stands spot.tree q f σ → node_at spot.tree.words.now q ≡ made → EachPart (Part q) made
+  parts made at e = parts_of ready.linked made (stands_within spot.tree at).1 e
 
-  null_of : {q : ℕ} {f : Form} {σ : Stack} → Stands tree q f σ → Decides (bit tree.null.now q) (Matches f [])
-  null_of at = ready.nulls.tells _ _ zero-le (at_within ready.linked ready.inside at).1 (at_grows at)
+  null_of : {q : ℕ} {f : Form} {σ : Stack} → Stands spot.tree q f σ → Decides (bit spot.tree.null.now q) (Matches f [])
+  null_of at = ready.nulls.tells _ _ zero-le (stands_within spot.tree at).1 (at_grows at)
 
-  starts_behind : {q : ℕ} {f : Form} {σ : Stack} → Stands tree q f σ → Decides (row_behind tree bits spot q) (Begins f σ t)
+  starts_behind : {q : ℕ} {f : Form} {σ : Stack} → Stands spot.tree q f σ → Decides (row_behind bits spot q) (Begins f σ t)
   starts_behind at = behind.starts.tells _ _ _ zero-le at
 
   -- What must stand behind a node
 
   abbrev rest_by : ℕ → ℕ → Node → Bool
-  rest_by = rest_rule (bit tree.null.now) (row_behind tree bits spot) (bit rests)
+  rest_by = rest_rule (bit spot.tree.null.now) (row_behind bits spot) (bit rests)
 
   -- A part has its bit by its node.
-  rest_is : {x q : ℕ} {f : Form} {σ : Stack} (made : Node) → Stands tree q f σ → Part q x → node_at tree.words.now q ≡ made →
-      rest tree rests bits spot x ≡ rest_by x q made
+  rest_is : {x q : ℕ} {f : Form} {σ : Stack} (made : Node) → Stands spot.tree q f σ → Part q x → node_at spot.tree.words.now q ≡ made →
+      rest rests bits spot x ≡ rest_by x q made
   rest_is {x} {q} made at u e =
-      cond-false _ _ _ (ne_eqb x tree.root (λ same. omega (arith, (at_within ready.linked ready.inside at).0, u.behind))) ∙
-      ap (λ p. rest_by x p (node_at tree.words.now p)) u.parent ∙ ap (rest_by x q) e
+      cond-false _ _ _ (ne_eqb x spot.tree.root (λ same. omega (arith, (stands_within spot.tree at).0, u.behind))) ∙
+      ap (λ p. rest_by x p (node_at spot.tree.words.now p)) u.parent ∙ ap (rest_by x q) e
 
-  pub rest_right : {q : ℕ} {f : Form} {σ : Stack} → Rests tree (bit rests) q t → Stands tree q f σ →
-      Decides (rest tree rests bits spot q) (Fits σ t)
+  pub rest_right : {q : ℕ} {f : Form} {σ : Stack} → Rests spot.tree (bit rests) q t → Stands spot.tree q f σ →
+      Decides (rest rests bits spot q) (Fits σ t)
   rest_right above (at_root a) =
-      Decides-at _ _ (cond-true _ _ _ (eq-eqb tree.root tree.root refl))
+      Decides-at _ _ (cond-true _ _ _ (eq-eqb spot.tree.root spot.tree.root refl))
       (Decides-like _ fits_nil_sound fits_nil_complete behind.ends)
   rest_right above (at_first q x y e a b at) =
       let us = parts (Seq x y) at e in
@@ -85,7 +86,7 @@ module _ (tree : Tree) (ready : Ready tree) (rests bits : List ℕ) (spot : Spot
       (Decides-or _ _ (starts_behind second) (Decides-and _ _ (null_of second) (above.tells _ _ _ us.0.behind at))))
   rest_right above (at_second q x y e a b at) =
       let us = parts (Seq x y) at e in
-      let differ = ready.linked.two q x y (at_within ready.linked ready.inside at).1 e in
+      let differ = ready.linked.two q x y (stands_within spot.tree at).1 e in
       Decides-at _ _ (rest_is (Seq x y) at us.1 e ∙ cond-false _ _ _ (ne_eqb y x (λ same. differ (sym same))))
       (above.tells _ _ _ us.1.behind at)
   rest_right above (at_left q x y e a b at) =
@@ -108,21 +109,21 @@ module _ (tree : Tree) (ready : Ready tree) (rests bits : List ℕ) (spot : Spot
   -- What begins at the spot
 
   abbrev start_by : ℕ → Node → Bool
-  start_by = start_rule (bit tree.null.now) (row_behind tree bits spot) (bit rests) (row_at bits spot.row) spot.byte
+  start_by = start_rule (bit spot.tree.null.now) (row_behind bits spot) (bit rests) (row_at bits spot.row) spot.byte
 
-  pub start_right : {p q : ℕ} {f : Form} {σ : Stack} → p ≤ q + 1 → Rests tree (bit rests) tree.size t →
-      Starts tree (row_at bits spot.row) p (spot.byte ∷ t) → Stands tree q f σ → Decides (start tree rests bits spot q) (Begins f σ (spot.byte ∷ t))
+  pub start_right : {p q : ℕ} {f : Form} {σ : Stack} → p ≤ q + 1 → Rests spot.tree (bit rests) spot.tree.size t →
+      Starts spot.tree (row_at bits spot.row) p (spot.byte ∷ t) → Stands spot.tree q f σ → Decides (start rests bits spot q) (Begins f σ (spot.byte ∷ t))
   start_right {p} {q} low rested starts at = by_node (at_grows at) at
     where
-      rest_of : {f : Form} {σ : Stack} → Stands tree q f σ → Decides (bit rests q) (Fits σ t)
-      rest_of at = rested.tells _ _ _ (at_within ready.linked ready.inside at).1 at
+      rest_of : {f : Form} {σ : Stack} → Stands spot.tree q f σ → Decides (bit rests q) (Fits σ t)
+      rest_of at = rested.tells _ _ _ (stands_within spot.tree at).1 at
 
-      part : {x : ℕ} {f : Form} {σ : Stack} → Part q x → Stands tree x f σ →
+      part : {x : ℕ} {f : Form} {σ : Stack} → Part q x → Stands spot.tree x f σ →
           Decides (row_at bits spot.row x) (Begins f σ (spot.byte ∷ t))
       part u at = starts.tells _ _ _ (omega (arith, low, u.behind)) at
 
-      by_node : {f : Form} {σ : Stack} → Grows tree.words.now q f → Stands tree q f σ →
-          Decides (start tree rests bits spot q) (Begins f σ (spot.byte ∷ t))
+      by_node : {f : Form} {σ : Stack} → Grows spot.tree.words.now q f → Stands spot.tree q f σ →
+          Decides (start rests bits spot q) (Begins f σ (spot.byte ∷ t))
       by_node (grows_empty e) at = Decides-at _ _ (ap (start_by q) e) (decides_false begins_empty_complete)
       by_node (grows_one e) at =
           Decides-at _ _ (ap (start_by q) e)

@@ -1,5 +1,5 @@
 -- The rows of a text: the loop over its places, and what the first row says of the whole text.
-use Rattle.std.proofs.Common.{◌≡◌, ℕ, ◌+◌, ◌*◌, ◌<◌, ◌≤◌, Bool, false, not, ◌&&◌, eqb, List, [], ◌∷◌, length, get_or, drop, Decides, sym, ap, ◌∙◌, subst, inl, inr, zero-le, le_refl, add-mul, one-mul, zero-add, zero-mul, arith}
+use Rattle.std.proofs.Common.{◌≡◌, ℕ, ◌+◌, ◌*◌, ◌<◌, ◌≤◌, Bool, false, ◌≢◌, ◌⊎◌, eqb, List, [], ◌∷◌, length, get_or, drop, Decides, sym, ap, ◌∙◌, subst, inl, inr, zero-le, le_refl, add-mul, one-mul, zero-add, zero-mul, arith}
 use Rattle.std.proofs.lemmas.Nat.{mul-le}
 use Rattle.std.proofs.lemmas.Bool.Decides.{Decides-at, Decides-like, Decides-eqb}
 use Rattle.std.proofs.lemmas.Bool.{cases_eq, eq-eqb, ne_eqb}
@@ -7,9 +7,12 @@ use Rattle.std.proofs.lemmas.List.{drop_more, drop_all, length-drop}
 use Rattle.lens.specs.Forms.{Text, Matches}
 use Rattle.bits.specs.Bits.{bit}
 use Rattle.trees.specs.declared.tree.Tree.{Tree}
+use Rattle.trees.specs.declared.step.Spot.{Spot}
+use Rattle.trees.specs.declared.scanned.Scanned.{Scanned}
 use Rattle.trees.specs.Tree.{at_root}
-use Rattle.trees.specs.Rows.{Ready, Starts, Behind, Steps, Tabled, BeginsAt, Accepts, row_at}
+use Rattle.trees.specs.Rows.{Starts, Behind, Steps, Tabled, BeginsAt, Accepts, row_at, row_behind}
 use Rattle.trees.proofs.Decisions.{decides_false}
+use Rattle.trees.proofs.Kept.{ready_of, stands_within, tabled_of}
 use Rattle.trees.proofs.Begins.{Some, begins_end, begins_whole_sound, begins_whole_complete}
 
 -- The row of the place i ends where the next one begins, and within what n rows take.
@@ -35,72 +38,81 @@ module _ (tree : Tree) where
   pub tabled_none : (bits : List ℕ) (text : Text) → Tabled tree bits text (length text)
   tabled_none bits text = record { rows = λ i low l. absurd (omega arith) }
 
-  -- The row behind the place i, in a table from the next place on.
-  behind_tabled : {p i : ℕ} {bits : List ℕ} {text : Text} (byte : ℕ) → p ≤ i + 1 → i < length text → Tabled tree bits text p →
-      Behind tree bits (record { row = i * tree.size; byte = byte; last = eqb (i + 1) (length text) }) (drop (i + 1) text)
-  behind_tabled {p} {i} {bits} {text} byte next l tabled = record { starts = starts; ends = ends }
-    where
-      ends : Decides (eqb (i + 1) (length text)) (drop (i + 1) text ≡ [])
-      ends = ends_behind text i l
-
-      starts : Starts tree (λ q. not (eqb (i + 1) (length text)) && bit bits (i * tree.size + tree.size + q)) 0 (drop (i + 1) text)
-      starts =
-          elim (cases_eq (i + 1) (length text)) [
-            | inl end ↦ starts_end (ends.0 (eq-eqb _ _ end)) (λ q. rw (eq-eqb (i + 1) (length text) end))
-            | inr more ↦
-                starts_at (λ q. rw (ne_eqb (i + 1) (length text) more) (ap (λ k. bit bits (k + q)) (sym (row_end i tree.size))))
-                (tabled.rows (i + 1) next (omega arith))
-          ]
-
-  -- A table from the place i on, after its step.
-  pub tabled_more : {p i : ℕ} {old new : List ℕ} {text : Text} → p ≤ i + 1 → i < length text → Tabled tree old text p →
-      Steps tree (record { row = i * tree.size; byte = get_or text i 0; last = eqb (i + 1) (length text) }) old new 0 → Tabled tree new text i
-  tabled_more {p} {i} {old} {new} {text} next l tabled steps = record { rows = rows }
-    where
-      here : Starts tree (row_at new (i * tree.size)) 0 (drop i text)
-      here =
-          subst (Starts tree (row_at new (i * tree.size)) 0) (sym (drop_more text i 0 l))
-          (steps.tells (drop (i + 1) text) (behind_tabled (get_or text i 0) next l tabled))
-
-      rows : (j : ℕ) → i ≤ j → j < length text → Starts tree (row_at new (j * tree.size)) 0 (drop j text)
-      rows j low m =
-          elim (cases_eq j i) [
-            | inl same ↦ subst (λ j. Starts tree (row_at new (j * tree.size)) 0 (drop j text)) (sym same) here
-            | inr other ↦
-                starts_at (λ q. steps.kept _ (omega (arith, row_within i j tree.size (omega arith)))) (tabled.rows j (omega arith) m)
-          ]
-
   pub tabled_all : {p : ℕ} {bits : List ℕ} {text : Text} → p ≤ 0 → Tabled tree bits text p → Tabled tree bits text 0
   tabled_all none tabled = record { rows = λ i low l. tabled.rows i (omega arith) l }
 
-  -- One bit of the table, and the end of the text
+-- A table from the place i on, by one from the next place on and the step of the spot of i.
+module _ (spot : Spot) (i : ℕ) (text : Text) (row : spot.row ≡ i * spot.tree.size) (last : spot.last ≡ eqb (i + 1) (length text)) where
+  pub behind_tabled : {p : ℕ} {bits : List ℕ} → p ≤ i + 1 → i < length text → Tabled spot.tree bits text p →
+      Behind bits spot (drop (i + 1) text)
+  behind_tabled {p} {bits} next l tabled = record { starts = starts; ends = Decides-at _ _ last (ends_behind text i l) }
+    where
+      none : i + 1 ≡ length text → (q : ℕ) → row_behind bits spot q ≡ false
+      none end q = rw (last, eq-eqb (i + 1) (length text) end)
 
-  pub begins_within : {i q : ℕ} {bits : List ℕ} {text : Text} {r : Bool} → i < length text → Tabled tree bits text 0 →
-      r ≡ bit bits (i * tree.size + q) → BeginsAt tree text i q r
-  begins_within {i} {q} l tabled is =
-      record { tells = λ f σ at. Decides-at _ _ is ((tabled.rows i zero-le l).tells q f σ zero-le at) }
+      there : i + 1 ≢ length text → (q : ℕ) → row_behind bits spot q ≡ row_at bits ((i + 1) * spot.tree.size) q
+      there more q =
+          rw (last, ne_eqb (i + 1) (length text) more)
+          (ap (λ k. bit bits (k + q)) (ap (λ r. r + spot.tree.size) row ∙ sym (row_end i spot.tree.size)))
 
-  pub begins_past : {i q : ℕ} {text : Text} → length text ≤ i → BeginsAt tree text i q false
-  begins_past {i} {q} {text} past = record { tells = λ f σ at. decides_false (begins_end (drop_all i text past)) }
+      starts : Starts spot.tree (row_behind bits spot) 0 (drop (i + 1) text)
+      starts =
+          elim (cases_eq (i + 1) (length text)) [
+            | inl end ↦ starts_end spot.tree ((ends_behind text i l).0 (eq-eqb _ _ end)) (none end)
+            | inr more ↦ starts_at spot.tree (there more) (tabled.rows (i + 1) next (omega arith))
+          ]
+
+  pub tabled_more : {p : ℕ} {old new : List ℕ} → spot.byte ≡ get_or text i 0 → p ≤ i + 1 → i < length text → Tabled spot.tree old text p →
+      Steps spot old new 0 → Tabled spot.tree new text i
+  tabled_more {p} {old} {new} byte next l tabled steps = record { rows = rows }
+    where
+      here : Starts spot.tree (row_at new (i * spot.tree.size)) 0 (drop i text)
+      here =
+          subst (Starts spot.tree (row_at new (i * spot.tree.size)) 0) (ap (λ b. b ∷ drop (i + 1) text) byte ∙ sym (drop_more text i 0 l))
+          (starts_at spot.tree (λ q. ap (λ r. bit new (r + q)) (sym row)) (steps.tells (drop (i + 1) text) (behind_tabled next l tabled)))
+
+      rows : (j : ℕ) → i ≤ j → j < length text → Starts spot.tree (row_at new (j * spot.tree.size)) 0 (drop j text)
+      rows j low m =
+          elim (cases_eq j i) [
+            | inl same ↦ subst (λ j. Starts spot.tree (row_at new (j * spot.tree.size)) 0 (drop j text)) (sym same) here
+            | inr other ↦
+                starts_at spot.tree (λ q. steps.kept _ (omega (arith, row, row_within i j spot.tree.size (omega arith))))
+                (tabled.rows j (omega arith) m)
+          ]
+
+-- What the table of a text says
+module _ (scanned : Scanned) where
+  -- One bit of it, and the end of the text.
+  pub begins_within : {i q : ℕ} {r : Bool} → i < length scanned.text.now → r ≡ bit scanned.starts.now (i * scanned.tree.size + q) →
+      BeginsAt scanned.tree scanned.text.now i q r
+  begins_within {i} {q} l is =
+      record { tells = λ f σ at. Decides-at _ _ is (((tabled_of scanned).rows i zero-le l).tells q f σ zero-le at) }
+
+  -- Nothing begins at the end of the text, nor at a place that is not in the tree.
+  pub begins_past : {i q : ℕ} → (length scanned.text.now ≤ i) ⊎ (scanned.tree.size ≤ q) → BeginsAt scanned.tree scanned.text.now i q false
+  begins_past {i} (inl past) = record { tells = λ f σ at. decides_false (begins_end (drop_all i scanned.text.now past)) }
+  begins_past (inr out) = record { tells = λ f σ at. absurd (let w = stands_within scanned.tree at in omega (arith, w.1)) }
 
   -- The whole text
 
-  pub accepts_empty : (ready : Ready tree) {r : Bool} {text : Text} → text ≡ [] →
-      r ≡ bit tree.null.now tree.root → Accepts tree text r
-  accepts_empty ready {r} e is = record {
+  pub accepts_empty : {r : Bool} → scanned.text.now ≡ [] → r ≡ bit scanned.tree.null.now scanned.tree.root →
+      Accepts scanned.tree scanned.text.now r
+  accepts_empty {r} e is = record {
     tells = λ f a.
-        subst (λ u. Decides r (Matches f u)) (sym e) (Decides-at _ _ is (ready.nulls.tells tree.root f zero-le ready.inside a));
+        let ready = ready_of scanned.tree.ready in
+        subst (λ u. Decides r (Matches f u)) (sym e) (Decides-at _ _ is (ready.nulls.tells scanned.tree.root f zero-le ready.inside a));
   }
 
-  pub accepts_some : {bits : List ℕ} {r : Bool} {text : Text} → 0 < length text → Tabled tree bits text 0 →
-      r ≡ bit bits tree.root → Accepts tree text r
-  accepts_some {bits} {r} {text} l tabled is = record {
+  pub accepts_some : {r : Bool} → 0 < length scanned.text.now → r ≡ bit scanned.starts.now scanned.tree.root →
+      Accepts scanned.tree scanned.text.now r
+  accepts_some {r} l is = record {
     tells = λ f a.
-        Decides-like r begins_whole_sound (begins_whole_complete text (some text l))
-        (Decides-at _ _ (is ∙ ap (bit bits) first) ((tabled.rows 0 zero-le l).tells _ _ _ zero-le (at_root a)));
+        Decides-like r begins_whole_sound (begins_whole_complete scanned.text.now (some scanned.text.now l))
+        (Decides-at _ _ (is ∙ ap (bit scanned.starts.now) first)
+        (((tabled_of scanned).rows 0 zero-le l).tells _ _ _ zero-le (at_root a)));
   }
     where
-      first : tree.root ≡ 0 * tree.size + tree.root
+      first : scanned.tree.root ≡ 0 * scanned.tree.size + scanned.tree.root
       first = rw (zero-mul, zero-add)
 
       some : (u : Text) → 0 < length u → Some u

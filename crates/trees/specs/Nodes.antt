@@ -15,6 +15,9 @@ node_of kind x y =
     (cond (kind == 6) (Same x)
     (cond (kind == 7) (Byte x y) None))))))
 
+abbrev pub node_of_words : List ℕ → Node
+node_of_words w = node_of (slice_index w 0) (slice_index w 1) (slice_index w 2)
+
 -- The node at the place q; past the end of the words there is none.
 abbrev pub node_at : List ℕ → ℕ → Node
 node_at words q = node_of (slice_index words (4 * q)) (slice_index words (4 * q + 1)) (slice_index words (4 * q + 2))

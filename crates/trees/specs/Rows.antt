@@ -4,18 +4,7 @@ use Rattle.lens.specs.Forms.{Text, Form, Matches}
 use Rattle.bits.specs.Bits.{bit}
 use Rattle.trees.specs.declared.tree.Tree.{Tree}
 use Rattle.trees.specs.declared.step.Spot.{Spot}
-use Rattle.trees.specs.Nodes.{Linked}
 use Rattle.trees.specs.Tree.{Stack, Grows, Fits, Begins, At}
-
--- Of each node from low on, among n, whether the empty text is of its form.
-pub record Nulls (n : ℕ) (words : List ℕ) (null : ℕ → Bool) (low : ℕ) : Type 0 where
-  pub tells : (q : ℕ) (f : Form) → low ≤ q → q < n → Grows words q f → Decides (null q) (Matches f [])
-
--- A tree that the passes can go by.
-pub record Ready (tree : Tree) : Type 0 where
-  pub linked : Linked tree.size tree.words.now
-  pub inside : tree.root < tree.size
-  pub nulls : Nulls tree.size tree.words.now (bit tree.null.now) 0
 
 -- At the place q of the tree stands f, and behind it the text must fit σ.
 abbrev pub Stands : Tree → ℕ → Form → Stack → Type 0
@@ -34,22 +23,22 @@ abbrev pub row_at : List ℕ → ℕ → ℕ → Bool
 row_at bits from q = bit bits (from + q)
 
 -- The row of the place behind a spot; behind the last one there is none, and nothing begins there.
-abbrev pub row_behind : Tree → List ℕ → Spot → ℕ → Bool
-row_behind tree bits spot q = not spot.last && bit bits (spot.row + tree.size + q)
+abbrev pub row_behind : List ℕ → Spot → ℕ → Bool
+row_behind bits spot q = not spot.last && bit bits (spot.row + spot.tree.size + q)
 
 -- The text t is what stands behind a spot, as far as the bits can tell.
-pub record Behind (tree : Tree) (bits : List ℕ) (spot : Spot) (t : Text) : Type 0 where
-  pub starts : Starts tree (row_behind tree bits spot) 0 t
+pub record Behind (bits : List ℕ) (spot : Spot) (t : Text) : Type 0 where
+  pub starts : Starts spot.tree (row_behind bits spot) 0 t
   pub ends : Decides spot.last (t ≡ [])
 
 -- The bits in rests tell what the nodes before high have to fit, whatever the text is that stands behind a spot.
-pub record Rested (tree : Tree) (bits : List ℕ) (spot : Spot) (rests : List ℕ) (high : ℕ) : Type 0 where
-  pub tells : (t : Text) → Behind tree bits spot t → Rests tree (bit rests) high t
+pub record Rested (bits : List ℕ) (spot : Spot) (rests : List ℕ) (high : ℕ) : Type 0 where
+  pub tells : (t : Text) → Behind bits spot t → Rests spot.tree (bit rests) high t
 
 -- One step back: from the row behind a spot to its own, from the node low on, whatever the text is that stands behind.
-pub record Steps (tree : Tree) (spot : Spot) (old new : List ℕ) (low : ℕ) : Type 0 where
-  pub tells : (t : Text) → Behind tree old spot t → Starts tree (row_at new spot.row) low (spot.byte ∷ t)
-  pub kept : (k : ℕ) → spot.row + tree.size ≤ k → bit new k ≡ bit old k
+pub record Steps (spot : Spot) (old new : List ℕ) (low : ℕ) : Type 0 where
+  pub tells : (t : Text) → Behind old spot t → Starts spot.tree (row_at new spot.row) low (spot.byte ∷ t)
+  pub kept : (k : ℕ) → spot.row + spot.tree.size ≤ k → bit new k ≡ bit old k
 
 -- The rows of a text from the place low on, one after the other. There is none for the end of the text.
 pub record Tabled (tree : Tree) (bits : List ℕ) (text : Text) (low : ℕ) : Type 0 where

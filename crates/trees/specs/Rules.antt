@@ -4,7 +4,6 @@ use Rattle.std.specs.Prelude.{ℕ, Bool, true, false, cond, ◌&&◌, ◌||◌, 
 use Rattle.bits.specs.Bits.{bit}
 use Rattle.trees.specs.declared.nodes.Node.{Node}
 use Rattle.trees.specs.declared.nodes.Node.TheVariants.{None, Empty, One, Seq, Or, Many, Same, Byte}
-use Rattle.trees.specs.declared.tree.Tree.{Tree}
 use Rattle.trees.specs.declared.step.Spot.{Spot}
 use Rattle.trees.specs.Nodes.{node_at, up_at}
 use Rattle.trees.specs.Rows.{row_at, row_behind}
@@ -32,11 +31,11 @@ rest_rule null behind rests q p (Many x) = behind p || rests p
 rest_rule null behind rests q p (Same x) = rests p
 rest_rule null behind rests q p (Byte b x) = rests p
 
-abbrev pub rest : Tree → List ℕ → List ℕ → Spot → ℕ → Bool
-rest tree rests bits spot q =
-    cond (q == tree.root) spot.last
-    (rest_rule (bit tree.null.now) (row_behind tree bits spot) (bit rests) q
-    (up_at tree.words.now q) (node_at tree.words.now (up_at tree.words.now q)))
+abbrev pub rest : List ℕ → List ℕ → Spot → ℕ → Bool
+rest rests bits spot q =
+    cond (q == spot.tree.root) spot.last
+    (rest_rule (bit spot.tree.null.now) (row_behind bits spot) (bit rests) q
+    (up_at spot.tree.words.now q) (node_at spot.tree.words.now (up_at spot.tree.words.now q)))
 
 -- Whether a part of the node at q that is not empty begins where the byte c stands.
 abbrev pub start_rule : (null behind rests row : ℕ → Bool) → ℕ → ℕ → Node → Bool
@@ -49,7 +48,7 @@ start_rule null behind rests row c q (Many x) = row x
 start_rule null behind rests row c q (Same x) = row x
 start_rule null behind rests row c q (Byte b x) = c == b && (behind x || (null x && rests q))
 
-abbrev pub start : Tree → List ℕ → List ℕ → Spot → ℕ → Bool
-start tree rests bits spot q =
-    start_rule (bit tree.null.now) (row_behind tree bits spot) (bit rests) (row_at bits spot.row) spot.byte q
-    (node_at tree.words.now q)
+abbrev pub start : List ℕ → List ℕ → Spot → ℕ → Bool
+start rests bits spot q =
+    start_rule (bit spot.tree.null.now) (row_behind bits spot) (bit rests) (row_at bits spot.row) spot.byte q
+    (node_at spot.tree.words.now q)

@@ -2,12 +2,13 @@
 ghost use Rattle.std.specs.Prelude.{◌≡◌, ◌*◌, ◌≤◌, length};
 ghost use Rattle.bits.specs.Bits.{bit};
 ghost use Rattle.trees.specs.Nodes.{node_at, Linked};
-ghost use Rattle.trees.specs.Rows.{Nulls};
+ghost use Rattle.trees.specs.Ready.{Nulls};
 ghost use Rattle.trees.specs.Rules.{null_rule};
 
 use crate::nodes::{Node, node_at};
 
 // Gives each place its bit, the last place first: parts stand behind their node.
+// The loop counts, since a place is the number by which nodes name it.
 pub fn mark_null(words: &[u32], size: usize, null: &mut [u32])
     requires linked { Linked size words.now }
     requires room { size ≤ 32 * length null.old }

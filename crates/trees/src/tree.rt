@@ -1,4 +1,5 @@
 // A form as a tree in lent words, as the passes over a text take it.
+ghost use Rattle.trees.specs.Ready.{Ready};
 
 #[derive(Clone, Copy)]
 pub struct Tree<'a> {
@@ -10,4 +11,5 @@ pub struct Tree<'a> {
     pub size: usize,
     // The place of the whole form.
     pub root: usize,
+    pub ghost ready: { ∥ Ready words.now null.now size root ∥₁ },
 }

@@ -1,5 +1,5 @@
 -- A text read byte by byte: one byte more, and what the last set tells of the form.
-use Rattle.std.proofs.Common.{◌≡◌, ℕ, ◌+◌, ◌-◌, ◌<◌, ◌≤◌, true, false, List, [], ◌∷◌, ◌++◌, length, get_or, take, drop, Decides, sym, refl, ap, ◌∙◌, subst, inl, inr, append-nil, arith, take-add}
+use Rattle.std.proofs.Common.{◌≡◌, ℕ, ◌+◌, ◌-◌, ◌<◌, ◌≤◌, true, false, Ok, Err, List, [], ◌∷◌, ◌++◌, length, get_or, take, drop, Decides, sym, refl, ap, ◌∙◌, subst, inl, inr, append-nil, arith, take-add}
 use Rattle.std.proofs.lemmas.List.{take_more, take_all}
 use Rattle.std.proofs.lemmas.Bool.{cases_lt, both_ways}
 use Rattle.lens.specs.Forms.{Text, Form, Matches}
@@ -7,7 +7,6 @@ use Rattle.bits.specs.Bits.{bit}
 use Rattle.reach.specs.Closed.{Closed}
 use Rattle.pairs.specs.Pairs.{Stays}
 use Rattle.viable.specs.declared.reading.Break.{Break}
-use Rattle.viable.specs.declared.reading.Reading.TheVariants.{Fits, Breaks}
 use Rattle.viable.specs.Moves.{Quiet}
 use Rattle.viable.specs.Viable.{Viable, BreaksAt}
 use Rattle.viable.specs.States.{Reader, After, GoesOn, Advanced, Follows, Expects, ReadsText}
@@ -34,13 +33,13 @@ module _ (t : List ℕ) (n : ℕ) (stays : Stays n t) (some : 0 < n) (text : Tex
           none : at < length text → Decides false ((q : ℕ) × GoesOn t n set (get_or text at 0) q)
           none less = (λ e. absurd (both_ways false refl e), λ (q, g). absurd (follows.stuck less q g))
 
-    pub reads_fits : length text ≤ at → bit set e ≡ true → ReadsText t e text Fits
+    pub reads_fits : length text ≤ at → bit set e ≡ true → ReadsText t e text (Ok tt)
     reads_fits all ends = record {
       says = λ f r. subst (λ u. Matches f u) (take_all at text all) ((ends_decides t n stays follows.after l r).0 ends);
     }
 
     pub reads_breaks : (b : Break) → b.at ≡ at → b.ends ≡ bit set e → Expects t n set 256 b.next.words →
-        (length text ≤ at → bit set e ≡ false) → ReadsText t e text (Breaks b)
+        (length text ≤ at → bit set e ≡ false) → ReadsText t e text (Err b)
     reads_breaks b is_at is_ends expects unended = record { says = says }
       where
         says : (f : Form) → Reader t e f → BreaksAt f text b

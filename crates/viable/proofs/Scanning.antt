@@ -1,33 +1,13 @@
--- The scan for the states of a set, and what the states of a set, one after the other, go on at.
-use Rattle.std.proofs.Common.{◌≡◌, ℕ, ◌+◌, ◌-◌, ◌*◌, ◌/◌, ◌%◌, ◌^◌, ◌<◌, ◌≤◌, Bool, true, false, ◌||◌, List, get_or, Decides, sym, refl, ◌∙◌, subst, inl, inr, arith, shr-shr, below_more}
-use native.Mathlib.Nat.{zero-div}
-use Rattle.std.proofs.lemmas.Bool.{cases_eq, cases_lt, cases_order, both_ways, or_cases, or_left, or_right}
+-- What the states of a set, one after the other, go on at.
+use Rattle.std.proofs.Common.{◌≡◌, ℕ, ◌+◌, ◌<◌, ◌≤◌, Bool, true, false, ◌||◌, List, [], Decides, sym, refl, ◌∙◌, subst, inl, inr, arith, below_more}
+use Rattle.std.proofs.lemmas.Bool.{cases_eq, cases_lt, both_ways, or_cases, or_left, or_right}
 use Rattle.std.proofs.lemmas.Bool.Decides.{Decides-at}
-use Rattle.bits.specs.Bits.{bit, Puts, Clears}
+use Rattle.bits.specs.Bits.{bit, Puts, Clears, IsLeft}
+use Rattle.bits.proofs.Tables.{bit_none}
 use Rattle.automata.specs.Automaton.{leaf}
 use Rattle.automata.proofs.Runs.{Reads}
 use Rattle.pairs.specs.Table.{shape_at}
-use Rattle.viable.specs.States.{First, Skips, GoesOn, MarksOn, Advanced, Expects}
-
--- Where a word has nothing from a digit on, it has no bit from there on.
-rest_empty : (set : List ℕ) (k j : ℕ) → get_or set (k / 32) 0 / 2 ^ (k % 32) ≡ 0 → k < j → j < 32 * (k / 32) + 32 → bit set j ≡ true → ⊥
-rest_empty set k j none low high t =
-    let word : j / 32 ≡ k / 32 = omega arith in
-    let place : j % 32 ≡ k % 32 + (j - k) = omega arith in
-    let zero : get_or set (j / 32) 0 / 2 ^ (j % 32) ≡ 0 = rw (word, place, ← shr-shr, none) (zero-div _) in
-    both_ways (bit set j) (rw zero) t
-
-pub skips_word : (set : List ℕ) (k : ℕ) → get_or set (k / 32) 0 / 2 ^ (k % 32) ≡ 0 → Skips set k (32 * (k / 32) + 32)
-skips_word set k none = record { on = omega arith; none = λ j low high. rest_empty set k j none low high }
-
--- One turn of the scan
-pub scan_more : (set : List ℕ) (from k r : ℕ) → ((j : ℕ) → from ≤ j → j < k → bit set j ≡ true → ⊥) → bit set k ≡ false → Skips set k r →
-    (j : ℕ) → from ≤ j → j < r → bit set j ≡ true → ⊥
-scan_more set from k r before here skips j low high t = elim (cases_order j k) [
-  | inl at ↦ both_ways (bit set k) here (rw at at t)
-  | inr (inl less) ↦ before j low less t
-  | inr (inr more) ↦ skips.none j more high t
-]
+use Rattle.viable.specs.States.{GoesOn, MarksOn, Advanced, Expects}
 
 -- One state more goes on, or is passed
 
@@ -43,8 +23,8 @@ module _ (t : List ℕ) (set : List ℕ) (x : ℕ) where
   }
 
   -- no state of the set from k up to r
-  pub advanced_on : {n k r : ℕ} {new : List ℕ} {some : Bool} → k ≤ r → First set n k r → Advanced t k set x new some → Advanced t r set x new some
-  advanced_on {n} {k} {r} {new} {some} l first a = record {
+  pub advanced_on : {k r : ℕ} {new : List ℕ} {some : Bool} → k ≤ r → ((j : ℕ) → k ≤ j → j < r → IsLeft set [] j → ⊥) → Advanced t k set x new some → Advanced t r set x new some
+  advanced_on {k} {r} {new} {some} l none a = record {
     sound = λ q b. goes_later l (a.sound q b);
     complete = λ q g. a.complete q (earlier q g);
     any = (λ e. let (q, g) = a.any.0 e in (q, goes_later l g), λ (q, g). a.any.1 (q, earlier q g));
@@ -53,7 +33,7 @@ module _ (t : List ℕ) (set : List ℕ) (x : ℕ) where
       earlier : (q : ℕ) → GoesOn t r set x q → GoesOn t k set x q
       earlier q g = elim (cases_lt g.from k) [
         | inl less ↦ record { from = g.from; below = less; marked = g.marked; reads = g.reads }
-        | inr more ↦ absurd (first.none g.from more g.below g.marked)
+        | inr more ↦ absurd (none g.from more g.below (record { has = g.marked; lacks = bit_none g.from }))
       ]
 
   -- the state k of the set

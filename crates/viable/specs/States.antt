@@ -1,11 +1,11 @@
 -- Sets of states as bits, and what the steps of reading a text do to them.
-use Rattle.std.specs.Prelude.{◌≡◌, ℕ, ◌<◌, ◌≤◌, Bool, true, ◌⊎◌, List, length, take, Decides, slice_index}
+use Rattle.std.specs.Prelude.{◌≡◌, ℕ, ◌<◌, ◌≤◌, Bool, true, ◌⊎◌, Result, List, length, take, Decides, slice_index}
 use Rattle.lens.specs.Forms.{Text, Form}
 use Rattle.bits.specs.Bits.{bit}
 use Rattle.automata.specs.Automaton.{stop, Runs, Acts}
 use Rattle.automata.proofs.Runs.{Reads}
 use Rattle.pairs.specs.Table.{shape_at}
-use Rattle.viable.specs.declared.reading.Reading.{Reading}
+use Rattle.viable.specs.declared.reading.Break.{Break}
 use Rattle.viable.specs.Viable.{Ranged, Says}
 
 -- The table t reads the form f: it begins at the state 0 and ends at the state e, which stops.
@@ -19,18 +19,6 @@ pub record After (t : List ℕ) (n : ℕ) (u : Text) (set : List ℕ) : Type 0 w
   pub sound : (q : ℕ) → q < n → bit set q ≡ true → Runs (shape_at t) 0 u q
   pub complete : (q : ℕ) → q < n → Runs (shape_at t) 0 u q → bit set q ≡ true
   pub some : (q : ℕ) × Runs (shape_at t) 0 u q
-
--- `member`: the first state of the set from k on, or n if there is none below n.
-pub record First (set : List ℕ) (n k r : ℕ) : Type 0 where
-  pub on : k ≤ n → k ≤ r
-  pub within : r ≤ n
-  pub marked : r < n → bit set r ≡ true
-  pub none : (j : ℕ) → k ≤ j → j < r → bit set j ≡ true → ⊥
-
--- `pass`: none of the set between k and r.
-pub record Skips (set : List ℕ) (k r : ℕ) : Type 0 where
-  pub on : k < r
-  pub none : (j : ℕ) → k < j → j < r → bit set j ≡ true → ⊥
 
 -- A state of the set, below k, reads the byte x and goes on at q.
 pub record GoesOn (t : List ℕ) (k : ℕ) (set : List ℕ) (x q : ℕ) : Type 0 where
@@ -64,5 +52,5 @@ pub record Expects (t : List ℕ) (n : ℕ) (set : List ℕ) (m : ℕ) (bytes : 
   pub each : (x : ℕ) → x < m → Decides (bit bytes x) ((q : ℕ) × GoesOn t n set x q)
 
 -- `read`: what is said holds of every form that the table reads.
-pub record ReadsText (t : List ℕ) (e : ℕ) (text : Text) (r : Reading) : Type 0 where
+pub record ReadsText (t : List ℕ) (e : ℕ) (text : Text) (r : Result (Unit {0}) Break) : Type 0 where
   pub says : (f : Form) → Reader t e f → Says f text r

@@ -1,11 +1,9 @@
 -- Viable prefixes of a form, and what is said of a text that is read byte by byte. Not here: how it is read (States).
-use Rattle.std.specs.Prelude.{◌≡◌, ℕ, ◌<◌, ◌≤◌, true, ◌⊎◌, [], ◌∷◌, ◌++◌, length, take, Decides}
+use Rattle.std.specs.Prelude.{◌≡◌, ℕ, ◌<◌, ◌≤◌, true, ◌⊎◌, Result, Ok, Err, [], ◌∷◌, ◌++◌, length, take, Decides}
 use Rattle.lens.specs.Forms.{Text, Form, empty, one, seq, or, many, Matches}
 use Rattle.viable.specs.declared.bytes.ByteSet.{ByteSet}
 use Rattle.viable.specs.Bytes.{has_byte}
 use Rattle.viable.specs.declared.reading.Break.{Break}
-use Rattle.viable.specs.declared.reading.Reading.{Reading}
-use Rattle.viable.specs.declared.reading.Reading.TheVariants.{Fits, Breaks}
 
 -- Some text of the form begins with u.
 abbrev pub Viable : Form → Text → Type 0
@@ -34,6 +32,6 @@ pub record BreaksAt (f : Form) (u : Text) (b : Break) : Type 0 where
   pub ends : Decides b.ends (Matches f (take b.at u))
   pub goes_on : (b.ends ≡ true) ⊎ ((x : ℕ) × (x < 256) × (has_byte b.next x ≡ true))
 
-abbrev pub Says : Form → Text → Reading → Type 0
-Says f u Fits = Matches f u
-Says f u (Breaks b) = BreaksAt f u b
+abbrev pub Says : Form → Text → Result (Unit {0}) Break → Type 0
+Says f u (Ok _) = Matches f u
+Says f u (Err b) = BreaksAt f u b

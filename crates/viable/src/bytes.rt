@@ -45,10 +45,8 @@ impl ByteSet {
         requires { from ≤ 255 }
         ensures { RunEnd self.now from inside result }
     {
-        let mut byte = from;
-        while byte < 256 && bits::get(&self.words, byte) == inside {
-            byte += 1;
-        }
-        byte
+        (from..256)
+            .find(|&byte| bits::get(&self.words, byte) != inside)
+            .unwrap_or(256)
     }
 }

@@ -2,10 +2,10 @@
 // Not here: how a form or a view is laid into a table (crates pairs and clear), and lines, columns or messages.
 #![tactic(auto)]
 
-mod automaton;
 mod bytes;
 mod reading;
+mod scanner;
 mod states;
 
 pub use bytes::{ByteRange, ByteSet};
-pub use reading::{Break, Reading, read};
+pub use reading::{Break, read};

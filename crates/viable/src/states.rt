@@ -1,18 +1,19 @@
 // Sets of states as bits: those that are come to with the text so far. A set is closed under moves without a byte, and a
 // byte of the text leads from one set to the next.
-ghost use Rattle.std.specs.Prelude.{◌≡◌, ◌*◌, ◌^◌, ◌<◌, ◌≤◌, [], length};
-ghost use Rattle.viable.specs.States.{After, First, Skips, MarksOn, Advanced, Follows, Expects};
+// That a set has a bit for each state is one inequality in each contract; a name for it would only hide it.
+ghost use Rattle.std.specs.Prelude.{◌≡◌, ◌*◌, ◌<◌, ◌≤◌, [], length};
+ghost use Rattle.viable.specs.States.{After, MarksOn, Advanced, Follows, Expects};
 
-use crate::automaton::Automaton;
 use crate::bytes::ByteSet;
-use pairs::{Step, step_at};
+use crate::scanner::Scanner;
+use pairs::Step;
 
-impl<'a> Automaton<'a> {
+impl<'a> Scanner<'a> {
     // The states that are come to before any byte.
     pub fn begin(&self, set: &mut [u32], done: &mut [u32], hints: &mut [u32])
-        requires set_room { self.now.states ≤ 32 * length set.old }
-        requires done_room { self.now.states ≤ 32 * length done.old }
-        ensures { After self.now.table.now self.now.states [] set.new }
+        requires set_room { self.now.automaton.states ≤ 32 * length set.old }
+        requires done_room { self.now.automaton.states ≤ 32 * length done.old }
+        ensures { After self.now.automaton.table.now self.now.automaton.states [] set.new }
     {
         bits::clear(set);
         bits::set(set, 0);
@@ -28,29 +29,27 @@ impl<'a> Automaton<'a> {
         done: &mut [u32],
         hints: &mut [u32],
     ) -> usize
-        requires set_room { self.now.states ≤ 32 * length set.old }
+        requires set_room { self.now.automaton.states ≤ 32 * length set.old }
         requires next_room { length next.old ≡ length set.old }
-        requires done_room { self.now.states ≤ 32 * length done.old }
-        requires begun { After self.now.table.now self.now.states [] set.old }
-        ensures { Follows self.now.table.now self.now.states text.now set.new result }
+        requires done_room { self.now.automaton.states ≤ 32 * length done.old }
+        requires begun { After self.now.automaton.table.now self.now.automaton.states [] set.old }
+        ensures { Follows self.now.automaton.table.now self.now.automaton.states text.now set.new result }
     {
-        let mut at = 0;
-        while at < text.len() {
-            if !self.advance(set, text[at] as u32, next) {
+        for (at, byte) in text.iter().enumerate() {
+            if !self.advance(set, *byte as u32, next) {
                 return at;
             }
             set.copy_from_slice(next);
             let _ = reach::close(self, set, done, hints);
-            at += 1;
         }
-        at
+        text.len()
     }
 
-    // The bytes that some state of the set reads. `next` is room to work in.
+    // The bytes that some state of the set reads. `next` is room to work in. The loop counts through all bytes.
     pub fn expected(&self, set: &[u32], next: &mut [u32]) -> ByteSet
-        requires set_room { self.now.states ≤ 32 * length set.now }
-        requires next_room { self.now.states ≤ 32 * length next.old }
-        ensures { Expects self.now.table.now self.now.states set.now 256 result.words }
+        requires set_room { self.now.automaton.states ≤ 32 * length set.now }
+        requires next_room { self.now.automaton.states ≤ 32 * length next.old }
+        ensures { Expects self.now.automaton.table.now self.now.automaton.states set.now 256 result.words }
     {
         let mut words = [0u32; 8];
         for byte in 0..256u32 {
@@ -62,27 +61,27 @@ impl<'a> Automaton<'a> {
 
     // Marks in `next` the states at which those of the set go on with the byte. Whether there are any.
     fn advance(&self, set: &[u32], byte: u32, next: &mut [u32]) -> bool
-        requires set_room { self.now.states ≤ 32 * length set.now }
-        requires next_room { self.now.states ≤ 32 * length next.old }
-        ensures { Advanced self.now.table.now self.now.states set.now byte next.new result }
+        requires set_room { self.now.automaton.states ≤ 32 * length set.now }
+        requires next_room { self.now.automaton.states ≤ 32 * length next.old }
+        ensures { Advanced self.now.automaton.table.now self.now.automaton.states set.now byte next.new result }
     {
         bits::clear(next);
         let mut some = false;
-        let mut state = member(set, self.states, 0);
-        while state < self.states {
+        let mut from = 0;
+        while let Some(state) = bits::first(set, &[], self.automaton.states, from) {
             some |= self.go_on(state, byte, next);
-            state = member(set, self.states, state + 1);
+            from = state + 1;
         }
         some
     }
 
     // Marks in `next` too where the state goes on with the byte. Whether it does.
     fn go_on(&self, state: usize, byte: u32, next: &mut [u32]) -> bool
-        requires inside { state < self.now.states }
-        requires next_room { self.now.states ≤ 32 * length next.old }
-        ensures { MarksOn self.now.table.now state byte next.old next.new result }
+        requires inside { state < self.now.automaton.states }
+        requires next_room { self.now.automaton.states ≤ 32 * length next.old }
+        ensures { MarksOn self.now.automaton.table.now state byte next.old next.new result }
     {
-        match step_at(self.table, state) {
+        match self.automaton.step(state) {
             Step::Leaf(low, high, after) => {
                 if low > byte || byte > high {
                     return false;
@@ -93,34 +92,4 @@ impl<'a> Automaton<'a> {
             _ => false,
         }
     }
-}
-
-// The first state of the set from `from` on, or `size` if there is none below `size`. What is left of a word without a
-// state is passed as a whole.
-fn member(set: &[u32], size: usize, from: usize) -> usize
-    requires set_room { size ≤ 32 * length set.now }
-    requires few { size < 2 ^ 32 }
-    ensures { First set.now size from result }
-{
-    let mut state = from;
-    while state < size {
-        if bits::get(set, state) {
-            return state;
-        }
-        state = pass(set, state);
-    }
-    size
-}
-
-// The next state that may be in the set.
-fn pass(set: &[u32], state: usize) -> usize
-    requires inside { state < 32 * length set.now }
-    requires few { state < 2 ^ 32 }
-    ensures { Skips set.now state result }
-{
-    let word = state / 32;
-    if set[word] >> (state % 32) == 0 {
-        return 32 * word + 32;
-    }
-    state + 1
 }

@@ -9,7 +9,7 @@ use cases::{CASES, LINES};
 use said::Said;
 use std::alloc::{AllocError, Global};
 use std::io;
-use views::{Fit, Side, viable_prefix};
+use views::{Side, viable_prefix};
 
 fn main(rt: HostRuntime) -> io::Result<()> {
     for case in CASES.iter() {
@@ -132,7 +132,7 @@ fn long_texts(rt: &HostRuntime) -> io::Result<()> {
     println!(rt; "  {other}")
 }
 
-// The work words that the call wants, by its own rule.
+// The work words that the call wants, counted here once more, since this is what holds the call's own count to its rule.
 fn room(view: usize, text: usize) -> usize {
     let n = view.min(1025);
     let cells = (n + 1).saturating_mul(text.saturating_add(1));

@@ -1,19 +1,19 @@
 // What is said of a text, in a line.
 use std::fmt;
-use views::{Break, ByteRange, Fit};
+use views::{Break, ByteRange, Unfit};
 
 #[derive(Clone, Copy)]
 pub struct Said {
-    pub fit: Fit,
+    pub fit: Result<(), Unfit>,
 }
 
 impl fmt::Display for Said {
     fn fmt<W: fmt::Write>(&self, f: &mut fmt::Formatter<W>) -> fmt::Result {
         match self.fit {
-            Fit::Fits => f.write_str("fits"),
-            Fit::Breaks(place) => write_break(&place, f),
-            Fit::NoSuch => f.write_str("no such view"),
-            Fit::Small => f.write_str("too few work words"),
+            Ok(()) => f.write_str("fits"),
+            Err(Unfit::Breaks(place)) => write_break(&place, f),
+            Err(Unfit::NoSuch) => f.write_str("no such view"),
+            Err(Unfit::Small) => f.write_str("too few work words"),
         }
     }
 }

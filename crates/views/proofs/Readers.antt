@@ -1,19 +1,17 @@
 -- The answers of `viable_prefix`: the table that was laid reads the form of the side.
-use Rattle.std.proofs.Common.{◌≡◌, ℕ, ◌≤◌, true, List, [], ◌∷◌, length, sym, subst, arith}
+use Rattle.std.proofs.Common.{◌≡◌, ℕ, ◌≤◌, List, [], ◌∷◌, Result, Ok, Err, length, arith}
 use Rattle.lens.specs.Forms.{Text, Form, empty, one, seq, or, many, exactly}
 use Rattle.lens.specs.Views.{View, copy, hide, then, swap, either, each}
 use Rattle.rows.specs.Rows.{FormFine, AllBytes, ViewFine, Encodes}
-use Rattle.rows.specs.Reads.{IsView}
 use Rattle.clear.specs.declared.side.Side.{Side}
 use Rattle.clear.specs.declared.side.Side.TheVariants.{Source, Look}
 use Rattle.clear.specs.Sides.{side_form}
 use Rattle.clear.specs.Verdict.{Lays}
 use Rattle.viable.specs.Viable.{Ranged}
 use Rattle.viable.specs.States.{Reader, ReadsText}
-use Rattle.viable.specs.declared.reading.Reading.{Reading}
-use Rattle.viable.specs.declared.reading.Reading.TheVariants.{Fits as Whole, Breaks as Short}
-use Rattle.views.specs.declared.fitting.Fit.{Fit}
-use Rattle.views.specs.declared.fitting.Fit.TheVariants.{Fits, Breaks, NoSuch, Small}
+use Rattle.viable.specs.declared.reading.Break.{Break}
+use Rattle.views.specs.declared.fitting.Unfit.{Unfit}
+use Rattle.views.specs.declared.fitting.Unfit.TheVariants.{Breaks, Small}
 use Rattle.views.specs.Room.{room}
 use Rattle.views.specs.Fits.{FitSays, FitPost}
 
@@ -47,27 +45,20 @@ reader : {side : Side} {s t : List ℕ} (v : View) → Encodes s v → Lays side
 reader {side} v e lays = record { acts = lays.acts v e; stops = lays.stops v e; ranged = ranged side v e.fine }
 
 -- The answers that rest on reading are not small.
-abbrev answer : Reading → Fit
-answer Whole = Fits
-answer (Short b) = Breaks b
+abbrev answer : Result (Unit {0}) Break → Result (Unit {0}) Unfit
+answer (Ok u) = Ok u
+answer (Err b) = Err (Breaks b)
 
-abbrev IsSmall : Fit → Type 0
-IsSmall Fits = ⊥
-IsSmall (Breaks b) = ⊥
-IsSmall NoSuch = ⊥
-IsSmall Small = Unit {0}
-
-says : {side : Side} {s t : List ℕ} {u : Text} (r : Reading) (v : View) → Encodes s v → Lays side s t → ReadsText t (length s) u r →
+says : {side : Side} {s t : List ℕ} {u : Text} (r : Result (Unit {0}) Break) (v : View) → Encodes s v → Lays side s t → ReadsText t (length s) u r →
     FitSays side s u (answer r)
-says {side} Whole v e lays read = (v, e, read.says (side_form side v) (reader v e lays))
-says {side} (Short b) v e lays read = (v, e, read.says (side_form side v) (reader v e lays))
+says {side} (Ok _) v e lays read = (v, e, read.says (side_form side v) (reader v e lays))
+says {side} (Err b) v e lays read = (v, e, read.says (side_form side v) (reader v e lays))
 
-large : (r : Reading) → answer r ≡ Small → ⊥
-large Whole e = subst IsSmall (sym e) tt
-large (Short b) e = subst IsSmall (sym e) tt
+large : (r : Result (Unit {0}) Break) → answer r ≡ Err Small → ⊥
+large (Ok _) e = cc
+large (Err b) e = cc
 
-pub fit_post : {side : Side} {s t : List ℕ} {u : Text} {w : ℕ} (r : Reading) → room s (length u) ≤ w → IsView s true → Lays side s t →
+pub fit_post : {side : Side} {s t : List ℕ} {u : Text} {w : ℕ} (r : Result (Unit {0}) Break) → room s (length u) ≤ w → (v : View) × Encodes s v → Lays side s t →
     ReadsText t (length s) u r → FitPost side s u w (answer r)
-fit_post r enough is lays read =
-    let (v, e) = is.says in
+fit_post r enough (v, e) lays read =
     record { says = says r v e lays read; small = (λ less. absurd (omega arith), λ is_small. absurd (large r is_small)) }

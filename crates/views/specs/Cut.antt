@@ -7,7 +7,6 @@ use Rattle.rows.specs.Rows.{Encodes}
 use Rattle.clear.specs.declared.side.Side.{Side}
 use Rattle.clear.specs.Sides.{side_form}
 use Rattle.walk.specs.declared.cut_text.CutText.{CutText}
-use Rattle.walk.specs.CutWalks.{Sound}
 use Rattle.walk.specs.Turned.{WholeWalk}
 
 -- The row says a clear view.
@@ -19,8 +18,7 @@ pub record ClearRow (s : List ℕ) : Type 0 where
 -- The text a of a side is cut by the view that the row s says.
 pub record CutBy (side : Side) (s : List ℕ) (a : Text) (cut : CutText) : Type 0 where
   pub side_is : cut.side ≡ side
-  pub text_is : cut.text.now ≡ a
-  pub sound : Sound cut
+  pub text_is : cut.scanned.text.now ≡ a
   pub walk : (v : View) → Encodes s v → WholeWalk s cut v
 
 -- It is cut, or it isn't of the form of that side.

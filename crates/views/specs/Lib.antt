@@ -5,4 +5,5 @@ pub mod Room
 pub mod Made
 pub mod Put
 pub mod Cut
+pub mod Admits
 pub mod Fits

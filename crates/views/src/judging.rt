@@ -2,7 +2,11 @@
 ghost use Rattle.std.specs.Prelude.{◌≡◌, ◌+◌, ◌*◌, min, length};
 ghost use Rattle.views.specs.Judged.{JudgedPost};
 
-// What is said of a view: it is clear, it is not, the bytes say none, or there are too few work words to tell.
+use clear::is_clear;
+use rows::Row;
+
+// What is said of a view: it is clear, it is not, the bytes say none, or there are too few work words to tell. Four verdicts,
+// none of which is a failure of the call, so it is no Result.
 #[derive(Clone, Copy, Debug, PartialEq, Eq)]
 pub enum Judged {
     Plain,
@@ -18,10 +22,10 @@ pub fn judge(view: &[u8], work: &mut [u32]) -> Judged
     if work.len() < floor(view.len()) {
         return Judged::Few;
     }
-    if !rows::is_view(view) {
+    let Some(row) = Row::of_view(view) else {
         return Judged::NoView;
-    }
-    if clear::is_clear(view, work).clear {
+    };
+    if is_clear(&row, work).yes {
         Judged::Plain
     } else {
         Judged::Unclear

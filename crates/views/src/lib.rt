@@ -1,6 +1,7 @@
 // The calls on views: what is said of one, and what it does with texts.
 #![tactic(auto)]
 
+mod admitting;
 mod cutting;
 mod fitting;
 mod judging;
@@ -10,9 +11,10 @@ mod room;
 mod turning;
 
 pub use clear::Side;
-pub use fitting::{Fit, viable_prefix};
+pub use fitting::{Unfit, viable_prefix};
 pub use judging::{Judged, floor, judge};
-pub use made::Made;
+pub use made::{Made, Refused};
 pub use putting::put;
+pub use room::work_words;
 pub use turning::{make, show};
 pub use viable::{Break, ByteRange, ByteSet};

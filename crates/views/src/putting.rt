@@ -5,12 +5,13 @@ ghost use Rattle.views.specs.Room.{room_for};
 ghost use Rattle.views.specs.Cut.{ClearRow};
 ghost use Rattle.views.specs.Put.{PutPost, PutClearedPost};
 
+use crate::admitting::admit;
 use crate::cutting::cut_text;
-use crate::judging::{Judged, judge};
-use crate::made::Made;
-use crate::room::{cut_words, has_room};
+use crate::made::{Made, Refused};
+use crate::room::cut_words;
 use clear::Side;
 use put_back::PutBack;
+use rows::Row;
 use walk::deliver;
 
 // The source with the look put back into it: written first in `out`, whose other bytes stay. What the work words hold
@@ -20,41 +21,34 @@ pub fn put(view: &[u8], source: &[u8], look: &[u8], out: &mut [u8], work: &mut [
 {
     // No two texts in memory are together longer than a number can say.
     let texts = source.len() + look.len();
-    if !has_room(view.len(), texts, work.len()) {
-        return Made::Small;
-    }
-    match judge(view, work) {
-        Judged::Plain => put_clear(view, source, look, out, work),
-        Judged::Unclear => Made::Muddy,
-        Judged::NoView => Made::NoSuch,
-        Judged::Few => Made::Small,
-    }
+    let row = admit(view, texts, work)?;
+    put_clear(&row, source, look, out, work)
 }
 
 // The same of a view that is clear, where there are enough work words: the source and the look are cut, each in words of
 // its own. What is left over is shared, to remember steps in.
-fn put_clear(view: &[u8], source: &[u8], look: &[u8], out: &mut [u8], work: &mut [u32]) -> Made
-    requires clear { ClearRow view.now }
-    requires enough { room_for (length view.now) (length source.now + length look.now) ≤ length work.old }
-    ensures { PutClearedPost view.now source.now look.now out.old out.new result }
+fn put_clear(row: &Row, source: &[u8], look: &[u8], out: &mut [u8], work: &mut [u32]) -> Made
+    requires clear { ClearRow row.now.bytes.now }
+    requires enough { room_for (length row.now.bytes.now) (length source.now + length look.now) ≤ length work.old }
+    ensures { PutClearedPost row.now.bytes.now source.now look.now out.old out.new result }
 {
-    let ours = cut_words(view.len(), source.len());
-    let theirs = cut_words(view.len(), look.len());
+    let ours = cut_words(row.bytes.len(), source.len());
+    let theirs = cut_words(row.bytes.len(), look.len());
     let spare = (work.len() - ours - theirs) / 2;
     let (first, second) = work.split_at_mut(ours + spare);
-    let Some(old) = cut_text(view, Side::Source, source, first) else {
-        return Made::NoSource;
+    let Some(old) = cut_text(row, Side::Source, source, first) else {
+        return Err(Refused::NoSource);
     };
-    let Some(new) = cut_text(view, Side::Look, look, second) else {
-        return Made::NoLook;
+    let Some(new) = cut_text(row, Side::Look, look, second) else {
+        return Err(Refused::NoLook);
     };
     let given = PutBack {
-        row: view,
+        row: *row,
         source: old,
         look: new,
     };
     let Some(len) = deliver(&given, out) else {
-        return Made::Full;
+        return Err(Refused::Full);
     };
-    Made::Done(len)
+    Ok(len)
 }

@@ -5,12 +5,12 @@ ghost use Rattle.views.specs.Room.{room_for};
 ghost use Rattle.views.specs.Cut.{ClearRow};
 ghost use Rattle.views.specs.Made.{ShownPost, MadePost, TurnedPost, ClearedPost, missing};
 
+use crate::admitting::admit;
 use crate::cutting::cut_text;
-use crate::judging::{Judged, judge};
-use crate::made::Made;
-use crate::room::has_room;
+use crate::made::{Made, Refused};
 use clear::Side;
-use walk::{turned_len, write_turned};
+use rows::Row;
+use walk::{Turned, deliver};
 
 // The look of a source: written first in `out`, whose other bytes stay. What the work words hold afterwards is free.
 pub fn show(view: &[u8], source: &[u8], out: &mut [u8], work: &mut [u32]) -> Made
@@ -30,42 +30,31 @@ pub fn make(view: &[u8], look: &[u8], out: &mut [u8], work: &mut [u32]) -> Made
 fn turned(view: &[u8], side: Side, text: &[u8], out: &mut [u8], work: &mut [u32]) -> Made
     ensures { TurnedPost side view.now text.now out.old out.new (length work.old) result }
 {
-    if !has_room(view.len(), text.len(), work.len()) {
-        return Made::Small;
-    }
-    match judge(view, work) {
-        Judged::Plain => turn_clear(view, side, text, out, work),
-        Judged::Unclear => Made::Muddy,
-        Judged::NoView => Made::NoSuch,
-        Judged::Few => Made::Small,
-    }
+    let row = admit(view, text.len(), work)?;
+    turn_clear(&row, side, text, out, work)
 }
 
 // The same of a view that is clear, where there are enough work words.
-fn turn_clear(view: &[u8], side: Side, text: &[u8], out: &mut [u8], work: &mut [u32]) -> Made
-    requires clear { ClearRow view.now }
-    requires enough { room_for (length view.now) (length text.now) ≤ length work.old }
-    ensures { ClearedPost side view.now text.now out.old out.new result }
+fn turn_clear(row: &Row, side: Side, text: &[u8], out: &mut [u8], work: &mut [u32]) -> Made
+    requires clear { ClearRow row.now.bytes.now }
+    requires enough { room_for (length row.now.bytes.now) (length text.now) ≤ length work.old }
+    ensures { ClearedPost side row.now.bytes.now text.now out.old out.new result }
 {
-    let Some(cut) = cut_text(view, side, text, work) else {
-        return no_text(side);
+    let Some(cut) = cut_text(row, side, text, work) else {
+        return Err(no_text(side));
     };
-    let len = turned_len(view, cut.side, &cut.tree, cut.text, cut.starts, cut.marks);
-    if len > out.len() {
-        return Made::Full;
-    }
-    let _ = write_turned(
-        view, cut.side, &cut.tree, cut.text, cut.starts, cut.marks, out,
-    );
-    Made::Done(len)
+    let Some(len) = deliver(&Turned { row: *row, cut }, out) else {
+        return Err(Refused::Full);
+    };
+    Ok(len)
 }
 
-// The answer for a text that isn't of the form of its side.
-fn no_text(side: Side) -> Made
+// The refusal of a text that isn't of the form of its side.
+fn no_text(side: Side) -> Refused
     ensures { result ≡ missing side }
 {
     match side {
-        Side::Source => Made::NoSource,
-        Side::Look => Made::NoLook,
+        Side::Source => Refused::NoSource,
+        Side::Look => Refused::NoLook,
     }
 }

@@ -18,9 +18,10 @@ use Rattle.trees.specs.declared.nodes.Node.TheVariants.{Seq, Or, Many}
 use Rattle.trees.specs.Nodes.{node_at}
 use Rattle.trees.specs.Tree.{Grows, grows_same, grows_seq, grows_or, grows_many}
 use Rattle.grow.specs.Planted.{Planted, planted_copy, planted_hidden, planted_shown, planted_then, planted_swap, planted_turned, planted_either, planted_each}
-use Rattle.walk.specs.Turns.{slice, front, back}
+use Rattle.walk.specs.Turns.{front, back}
+use Rattle.walk.specs.Spans.{slice}
 use Rattle.walk.specs.declared.cut_text.CutText.{CutText}
-use Rattle.walk.specs.CutWalks.{Sound, Ends, other_of, other_part, CutWalk, CutSeries, Takes}
+use Rattle.walk.specs.Walks.{Ends, other_of, other_part, CutWalk, CutSeries, Takes}
 use Rattle.walk.proofs.Holding.{Held, piece, hold_seq, hold_left, hold_right, hold_many, hold_first}
 
 -- A planted view grows.
@@ -153,10 +154,10 @@ two_laid b {row} {first = first} {second} {e} tag laid stands =
     }
 
 abbrev HeldOf : CutText → Form → ℕ → ℕ → ℕ → Type 0
-HeldOf cut = Held cut.tree cut.text.now cut.starts.now cut.marks.now
+HeldOf cut = Held cut.scanned cut.marks.now
 
 abbrev PlantedIn : CutText → ℕ → View → Type 0
-PlantedIn cut = Planted cut.tree.words.now cut.side
+PlantedIn cut = Planted cut.scanned.tree.words.now cut.side
 
 module _ {row : List ℕ} {cut : CutText} where
   -- A part of a view, as a part of its form.
@@ -189,18 +190,18 @@ in_order : {row t : List ℕ} (side : Side) {first second e : ℕ} {k l : View} 
 in_order Source k l a b = (((_, k), a), ((_, l), b))
 in_order Look k l a b = (((_, l), b), ((_, k), a))
 
-module _ {row : List ℕ} {cut : CutText} (sound : Sound cut) where
+module _ {row : List ℕ} {cut : CutText} where
   -- A part of a view is a part of the text, and of the form of the view.
   pub walk_piece : {place i e : ℕ} {v : View} → CutWalk row cut place i e v →
-      (i ≤ e) × (e ≤ length cut.text.now) × Matches (side_form cut.side v) (slice cut.text.now i e)
-  walk_piece w = let p = piece sound.ready sound.tabled (held w refl) in (p.ordered, p.within, p.matches)
+      (i ≤ e) × (e ≤ length cut.scanned.text.now) × Matches (side_form cut.side v) (slice cut.scanned.text.now i e)
+  walk_piece w = let p = piece (held w refl) in (p.ordered, p.within, p.matches)
 
   pub then_walks : {place first second i m e : ℕ} {v : View} (two : Two then row first second v) → first ≡ place + 1 → Ends cut first i m →
       CutWalk row cut place i e v → CutWalk row cut first i m two.one × CutWalk row cut second m e two.other
   then_walks {first = first} {second} {i} {m} {e} two behind ends w =
       let (node, a, b) = then_planted behind (two_long two) (planted w two.is) in
       let form = ap (side_form cut.side) two.is ∙ form_then cut.side two.one two.other in
-      let (n, x, y) = hold_seq sound.ready sound.tabled node (planted_grows a) (planted_grows b) (held w form) in
+      let (n, x, y) = hold_seq node (planted_grows a) (planted_grows b) (held w form) in
       let same : n ≡ m = sym (ends n x.part) in (
         subst (λ n. CutWalk row cut first i n two.one) same (walk two.laid_one a x),
         subst (λ n. CutWalk row cut second n e two.other) same (walk two.laid_other b y),
@@ -215,7 +216,7 @@ module _ {row : List ℕ} {cut : CutText} (sound : Sound cut) where
       let (node, a, b) = swap_planted behind (two_long two) (planted w two.is) in
       let (x, y) = in_order side two.laid_one two.laid_other a b in
       let form = ap (side_form side) two.is ∙ form_swap side two.one two.other in
-      let (n, x', y') = hold_seq sound.ready sound.tabled node (planted_grows x.1) (planted_grows y.1) (held w form) in
+      let (n, x', y') = hold_seq node (planted_grows x.1) (planted_grows y.1) (held w form) in
       let ends' : Ends cut (front side first second) i m = subst (λ r. Ends cut r.0 i m) order ends in
       let same : n ≡ m = sym {b = n} (ends' n x'.part) in
       let before = subst (λ n. CutWalk row cut (front side first second) i n (front side two.one two.other)) same (walk x.0.1 x.1 x') in
@@ -229,13 +230,13 @@ module _ {row : List ℕ} {cut : CutText} (sound : Sound cut) where
     left_walks chosen =
         let (node, a, b) = either_planted behind (two_long two) (planted w two.is) in
         let form = ap (side_form cut.side) two.is ∙ form_either cut.side two.one two.other in
-        walk two.laid_one a (hold_left sound.ready sound.tabled node (planted_grows a) (planted_grows b) chosen (held w form))
+        walk two.laid_one a (hold_left node (planted_grows a) (planted_grows b) chosen (held w form))
 
     pub right_walks : Takes cut first second i false → CutWalk row cut second i e two.other
     right_walks chosen =
         let (node, a, b) = either_planted behind (two_long two) (planted w two.is) in
         let form = ap (side_form cut.side) two.is ∙ form_either cut.side two.one two.other in
-        walk two.laid_other b (hold_right sound.ready sound.tabled node (planted_grows a) (planted_grows b) chosen (held w form))
+        walk two.laid_other b (hold_right node (planted_grows a) (planted_grows b) chosen (held w form))
 
   pub each_walks : {place first i e : ℕ} {v : View} → Tagged row place 15 first → CutWalk row cut place i e v →
       (l : View) × (v ≡ each l) × CutSeries row cut first i e l
@@ -243,13 +244,13 @@ module _ {row : List ℕ} {cut : CutText} (sound : Sound cut) where
       let (l, is, laid) = laid_behind builds_each view_long tag w.laid in
       let (node, a) = each_planted tag.behind (planted w is) in
       let form = ap (side_form cut.side) is ∙ form_each cut.side l in
-      (l, is, record { behind = _; laid = laid; planted = a; held = hold_many sound.ready sound.tabled node (planted_grows a) (held w form) })
+      (l, is, record { behind = _; laid = laid; planted = a; held = hold_many node (planted_grows a) (held w form) })
 
   -- The first of any number of parts, and then the others
   pub first_walks : {place i m e : ℕ} {l : View} → Ends cut place i m → i < e → CutSeries row cut place i e l →
       CutWalk row cut place i m l × CutSeries row cut place m e l × (i < m)
   first_walks {place} {i} {m} {e} {l} ends more s =
-      let (n, x, y, less) = hold_first sound.ready sound.tabled s.held more in
+      let (n, x, y, less) = hold_first s.held more in
       let same : n ≡ m = sym (ends n x.part) in (
         subst (λ n. CutWalk row cut place i n l) same (walk s.laid s.planted x),
         subst (λ n. CutSeries row cut place n e l) same (record { behind = _; laid = s.laid; planted = s.planted; held = y }),

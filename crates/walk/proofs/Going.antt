@@ -1,5 +1,5 @@
 -- Where a walk goes on: at the parts of a view, which stand behind it in the row.
-use Rattle.std.proofs.Common.{◌≡◌, ℕ, ◌+◌, ◌-◌, ◌*◌, ◌<◌, ◌≤◌, true, false, List, [], ◌∷◌, ◌++◌, length, sym, ap, ◌∙◌, subst, append-nil, zero-le, le_refl, arith}
+use Rattle.std.proofs.Common.{◌≡◌, ℕ, ◌+◌, ◌-◌, ◌*◌, ◌<◌, true, false, List, [], ◌∷◌, ◌++◌, length, sym, ap, ◌∙◌, subst, append-nil, zero-le, le_refl, arith}
 use Rattle.std.proofs.lemmas.List.{drop_all}
 use Rattle.lens.specs.Forms.{Matches}
 use Rattle.lens.specs.Views.{View}
@@ -13,7 +13,7 @@ use Rattle.trees.specs.Tree.{Grows, Fits, fits_none, fits_more, At, at_root}
 use Rattle.grow.specs.Planted.{Planted}
 use Rattle.walk.specs.Turns.{front, back}
 use Rattle.walk.specs.declared.cut_text.CutText.{CutText}
-use Rattle.walk.specs.CutWalks.{Sound, CutPart, Ends, other_part, CutWalk, CutWalks, CutSeries, SomeCutSeries, Takes}
+use Rattle.walk.specs.Walks.{CutPart, Ends, other_part, CutWalk, CutWalks, CutSeries, SomeCutSeries, Takes}
 use Rattle.walk.proofs.Descending.{planted_grows, Two, then_two, swap_two, either_two, then_walks, swap_walks, left_walks, right_walks, each_walks, first_walks}
 
 -- A place behind another one has less of the row behind it.
@@ -33,63 +33,54 @@ module _ {row : List ℕ} {cut : CutText} where
   pub walks_inside : {place i e : ℕ} → CutWalks row cut place i e → place < length row
   walks_inside w = omega (arith, w.walk.laid.less, w.walk.laid.within)
 
-module _ {row : List ℕ} {cut : CutText} (sound : Sound cut) {place first second i e : ℕ} (found : second ≡ other_part cut place first) where
+module _ {row : List ℕ} {cut : CutText} {place first second i e : ℕ} (found : second ≡ other_part cut place first) where
   -- The second part of two stands behind the first one, and that behind its node.
   module _ (tag : Tagged row place 12 first) (w : CutWalks row cut place i e) where
     pub go_first : {m : ℕ} → Ends cut first i m → CutWalks row cut first i m × (place < first)
     go_first ends =
         let two = then_two found tag w.walk in
-        (record { view = _; walk = (then_walks sound two tag.behind ends w.walk).0 }, (two_behind two tag.behind).0)
+        (record { view = _; walk = (then_walks two tag.behind ends w.walk).0 }, (two_behind two tag.behind).0)
 
     pub go_second : {m : ℕ} → Ends cut first i m → CutWalks row cut second m e × (place < second)
     go_second ends =
         let two = then_two found tag w.walk in
-        (record { view = _; walk = (then_walks sound two tag.behind ends w.walk).1 }, (two_behind two tag.behind).1)
+        (record { view = _; walk = (then_walks two tag.behind ends w.walk).1 }, (two_behind two tag.behind).1)
 
   module _ (tag : Tagged row place 13 first) (w : CutWalks row cut place i e) {r : ℕ × ℕ} (order : r ≡ (front cut.side first second, back cut.side first second)) where
     pub go_front : {m : ℕ} → Ends cut r.0 i m → CutWalks row cut r.0 i m × (place < r.0)
     go_front ends =
         let two = swap_two found tag w.walk in
-        (record { view = _; walk = (swap_walks sound two tag.behind order ends w.walk).0 }, rw order (both_behind cut.side (two_behind two tag.behind)).0)
+        (record { view = _; walk = (swap_walks two tag.behind order ends w.walk).0 }, rw order (both_behind cut.side (two_behind two tag.behind)).0)
 
     pub go_back : {m : ℕ} → Ends cut r.0 i m → CutWalks row cut r.1 m e × (place < r.1)
     go_back ends =
         let two = swap_two found tag w.walk in
-        (record { view = _; walk = (swap_walks sound two tag.behind order ends w.walk).1 }, rw order (both_behind cut.side (two_behind two tag.behind)).1)
+        (record { view = _; walk = (swap_walks two tag.behind order ends w.walk).1 }, rw order (both_behind cut.side (two_behind two tag.behind)).1)
 
   module _ (tag : Tagged row place 14 first) (w : CutWalks row cut place i e) where
     pub go_left : Takes cut first second i true → CutWalks row cut first i e × (place < first)
     go_left chosen =
         let two = either_two found tag w.walk in
-        (record { view = _; walk = left_walks sound two tag.behind w.walk chosen }, (two_behind two tag.behind).0)
+        (record { view = _; walk = left_walks two tag.behind w.walk chosen }, (two_behind two tag.behind).0)
 
     pub go_right : Takes cut first second i false → CutWalks row cut second i e × (place < second)
     go_right chosen =
         let two = either_two found tag w.walk in
-        (record { view = _; walk = right_walks sound two tag.behind w.walk chosen }, (two_behind two tag.behind).1)
+        (record { view = _; walk = right_walks two tag.behind w.walk chosen }, (two_behind two tag.behind).1)
 
-module _ {row : List ℕ} {cut : CutText} (sound : Sound cut) where
-  -- The places of the two parts are those of a row.
-  pub choice_inside : {place first second i e : ℕ} → length row ≤ 1024 → Tagged row place 14 first → second ≡ other_part cut place first →
-      CutWalks row cut place i e → (first ≤ 1024) × (second ≤ 1024)
-  choice_inside short tag found w =
-      let two = either_two found tag w.walk in
-      let one = two.laid_one in
-      let other = two.laid_other in
-      (omega (arith, one.less, one.within), omega (arith, other.less, other.within))
-
+module _ {row : List ℕ} {cut : CutText} where
   pub go_parts : {place first i e : ℕ} → Tagged row place 15 first → CutWalks row cut place i e → SomeCutSeries row cut first i e
-  go_parts tag w = let (l, is, s) = each_walks sound tag w.walk in record { view = l; parts = s }
+  go_parts tag w = let (l, is, s) = each_walks tag w.walk in record { view = l; parts = s }
 
   pub go_part : {place i m e : ℕ} {l : View} → Ends cut place i m → i < e → CutSeries row cut place i e l → CutWalks row cut place i m
-  go_part ends more s = record { view = _; walk = (first_walks sound ends more s).0 }
+  go_part ends more s = record { view = _; walk = (first_walks ends more s).0 }
 
 -- The whole text, at the root of the tree.
-pub go_whole : {row : List ℕ} {cut : CutText} {v : View} → Encodes row v → cut.tree.root ≡ 0 → Planted cut.tree.words.now cut.side 0 v →
-    Matches (side_form cut.side v) cut.text.now → CutPart cut cut.tree.root 0 (length cut.text.now) →
-    CutWalk row cut 0 0 (length cut.text.now) v
+pub go_whole : {row : List ℕ} {cut : CutText} {v : View} → Encodes row v → cut.scanned.tree.root ≡ 0 → Planted cut.scanned.tree.words.now cut.side 0 v →
+    Matches (side_form cut.side v) cut.scanned.text.now → CutPart cut cut.scanned.tree.root 0 (length cut.scanned.text.now) →
+    CutWalk row cut 0 0 (length cut.scanned.text.now) v
 go_whole {row} {cut} {v} encodes root planted matches part =
-    let text = cut.text.now in
+    let text = cut.scanned.text.now in
     let grows = planted_grows planted in
     record {
       behind = length row;
@@ -102,7 +93,7 @@ go_whole {row} {cut} {v} encodes root planted matches part =
       planted = planted;
       holds = record {
         stack = [];
-        stands = subst (λ q. At cut.tree.words.now cut.tree.root q (side_form cut.side v) []) root (at_root (subst (λ q. Grows cut.tree.words.now q (side_form cut.side v)) (sym root) grows));
+        stands = subst (λ q. At cut.scanned.tree.words.now cut.scanned.tree.root q (side_form cut.side v) []) root (at_root (subst (λ q. Grows cut.scanned.tree.words.now q (side_form cut.side v)) (sym root) grows));
         fits = subst (Fits (side_form cut.side v ∷ [])) (append-nil text) (fits_more text [] matches fits_none);
         within = zero-le;
       };

@@ -3,7 +3,6 @@ pub mod Pieces
 pub mod Holding
 pub mod Descending
 pub mod Giving
-pub mod Lent
 pub mod Going
 pub mod Choosing
 pub mod Writing

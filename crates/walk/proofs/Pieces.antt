@@ -6,7 +6,8 @@ use Rattle.lens.proofs.Inversions.{on_empty, on_one, on_seq}
 use Rattle.clear.specs.declared.side.Side.{Side}
 use Rattle.clear.specs.declared.side.Side.TheVariants.{Source, Look}
 use Rattle.clear.specs.Sides.{side_form}
-use Rattle.walk.specs.Turns.{Turns, shown, made, slice, other_text, front, back}
+use Rattle.walk.specs.Spans.{slice}
+use Rattle.walk.specs.Turns.{Turns, shown, made, other_text, front, back}
 
 -- Parts of a text
 

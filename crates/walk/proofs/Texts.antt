@@ -9,7 +9,7 @@ use Rattle.rows.proofs.Unique.{splits_form, splits_text}
 use Rattle.clear.specs.Filled.{Laid}
 use Rattle.clear.proofs.Laying.{laid_length, laid_ends, laid_both}
 use Rattle.clear.proofs.Lengths.{text_long, both_long}
-use Rattle.walk.specs.Turns.{slice}
+use Rattle.walk.specs.Spans.{slice}
 
 -- Behind its length stand the bytes of a text.
 laid_bytes : {s : List ℕ} {at e : ℕ} {v : Text} → Laid text_row TextFine s at e v → slice s (at + 1) e ≡ v

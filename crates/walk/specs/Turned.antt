@@ -1,5 +1,5 @@
 -- What the whole of a cut text turns into, and that there is one such text if the view is clear.
-use Rattle.std.specs.Prelude.{◌≡◌, ℕ, ◌≤◌, List, length}
+use Rattle.std.specs.Prelude.{◌≡◌, ℕ, List, length}
 use Rattle.lens.specs.Forms.{Text}
 use Rattle.lens.specs.Views.{View, Shows, Makes}
 use Rattle.lens.specs.Clear.{Clear}
@@ -8,23 +8,21 @@ use Rattle.clear.specs.declared.side.Side.{Side}
 use Rattle.clear.specs.declared.side.Side.TheVariants.{Source, Look}
 use Rattle.walk.specs.Turns.{Turns, shown, made}
 use Rattle.walk.specs.declared.cut_text.CutText.{CutText}
-use Rattle.walk.specs.CutWalks.{Sound, CutWalk}
+use Rattle.walk.specs.Walks.{CutWalk}
 
 -- The whole text is a part of the view v, which the whole row says.
 abbrev pub WholeWalk : List ℕ → CutText → View → Type 0
-WholeWalk row cut v = CutWalk row cut 0 0 (length cut.text.now) v
+WholeWalk row cut v = CutWalk row cut 0 0 (length cut.scanned.text.now) v
 
 -- The text is cut by a clear view.
 pub record CutWhole (row : List ℕ) (cut : CutText) : Type 0 where
-  pub short : length row ≤ 1024
-  pub sound : Sound cut
   pub view : View
   pub clear : Clear view
   pub walk : WholeWalk row cut view
 
 -- The text turns into u.
 pub record TurnedWhole (row : List ℕ) (cut : CutText) (u : Text) : Type 0 where
-  pub turns : (v : View) → WholeWalk row cut v → Turns cut.side v cut.text.now u
+  pub turns : (v : View) → WholeWalk row cut v → Turns cut.side v cut.scanned.text.now u
 
 pub on_shown : {v : View} {s u : Text} → Turns Source v s u → Shows v s u
 on_shown (shown x) = x

@@ -1,5 +1,4 @@
 -- What a text of one side of a view turns into on the other side.
-use Rattle.std.specs.Prelude.{ℕ, ◌-◌, take, drop}
 use Rattle.lens.specs.Forms.{Text}
 use Rattle.lens.specs.Views.{View, Shows, Makes}
 use Rattle.clear.specs.declared.side.Side.{Side}
@@ -9,16 +8,6 @@ use Rattle.clear.specs.declared.side.Side.TheVariants.{Source, Look}
 pub data Turns : Side → View → Text → Text → Type 0 where
   shown : {v : View} {s u : Text} → Shows v s u → Turns Source v s u
   made : {v : View} {u s : Text} → Makes v u s → Turns Look v u s
-
--- The part of a text from i to e.
-abbrev pub slice : Text → ℕ → ℕ → Text
-slice text i e = take (e - i) (drop i text)
-
--- The text s of a side turns into some text of which P holds.
-pub record Gives (side : Side) (v : View) (s : Text) (P : Text → Type 0) : Type 0 where
-  pub out : Text
-  pub turns : Turns side v s out
-  pub took : P out
 
 -- Some text of which R holds was given: P holds of it.
 pub record GivesSome (R P : Text → Type 0) : Type 0 where

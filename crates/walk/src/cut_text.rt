@@ -1,36 +1,34 @@
 // A text that has been cut into the parts of one side of a view, and where its parts are.
 // Not here: how a text is cut (crate marks).
-ghost use Rattle.std.specs.Prelude.{◌≡◌, ◌≤◌};
-ghost use Rattle.walk.specs.CutWalks.{Sound, Ends, Takes, other_part};
+ghost use Rattle.std.specs.Prelude.{◌≡◌};
 
 use clear::Side;
-use trees::{Node, Tree, begins_at, node_at};
+use trees::{Node, Scanned, node_at};
 
 #[derive(Clone, Copy)]
 pub struct CutText<'w, 't> {
     pub side: Side,
-    // The form of the side, whose nodes stand at the places of the row.
-    pub tree: Tree<'w>,
-    pub text: &'t [u8],
-    // Which parts that are not empty begin where, and which end where: a bit for each place of the text and each node.
-    pub starts: &'w [u32],
+    // The text with the tree of the side, whose nodes stand at the places of the row, and which of its parts begin where.
+    pub scanned: Scanned<'w, 't>,
+    // Which parts that are not empty end where: a bit for each place of the text and each node.
     pub marks: &'w [u32],
 }
 
 impl<'w, 't> CutText<'w, 't> {
+    ghost use Rattle.walk.specs.Walks.{Ends, Takes, other_part};
+
     // Where the part of the node that begins at `at` ends.
     pub fn end_of(&self, place: usize, at: usize) -> usize
-        requires sound { Sound self.now }
         ensures { Ends self.now place at result }
     {
-        marks::end_of(&self.tree, self.text, self.starts, self.marks, place, at)
+        marks::end_of(&self.scanned, self.marks, place, at)
     }
 
     // The place of the second part of the view at `place`, whose first part stands at `first`.
     pub fn second_of(&self, place: usize, first: usize) -> usize
         ensures { result ≡ other_part self.now place first }
     {
-        match node_at(self.tree.words, place) {
+        match node_at(self.scanned.tree.words, place) {
             Node::Seq(left, right) => {
                 if left as usize == first {
                     right as usize
@@ -46,17 +44,14 @@ impl<'w, 't> CutText<'w, 't> {
     // Whether the cut took the first of two nodes: a part of it that is not empty begins at `at`, or none of either does
     // and the empty text is of it.
     pub fn takes_first(&self, first: usize, second: usize, at: usize) -> bool
-        requires sound { Sound self.now }
-        requires first_small { first ≤ 1024 }
-        requires second_small { second ≤ 1024 }
         ensures { Takes self.now first second at result }
     {
-        if begins_at(&self.tree, self.text, self.starts, at, first as u32) {
+        if self.scanned.begins_at(first, at) {
             return true;
         }
-        if begins_at(&self.tree, self.text, self.starts, at, second as u32) {
+        if self.scanned.begins_at(second, at) {
             return false;
         }
-        bits::get(self.tree.null, first)
+        bits::get(self.scanned.tree.null, first)
     }
 }

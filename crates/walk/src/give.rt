@@ -4,31 +4,32 @@ ghost use Rattle.lens.specs.Forms.{Text};
 ghost use Rattle.rows.specs.Rows.{text_row, TextFine};
 ghost use Rattle.rows.proofs.Tags.{Hidden, hidden_row, HiddenFine};
 ghost use Rattle.clear.specs.Filled.{Laid};
-ghost use Rattle.walk.specs.Turns.{slice, other_text};
+ghost use Rattle.walk.specs.Spans.{slice};
+ghost use Rattle.walk.specs.Turns.{other_text};
 
 use crate::sink::Sink;
+use crate::span::Span;
 use clear::Side;
-use rows::{Kind, part_end};
+use rows::{Kind, Row};
 
-// Gives the bytes from `at` to `end`.
-pub fn give_part<S: Sink>(bytes: &[u8], at: usize, end: usize, sink: &mut S)
-    requires ordered { at ≤ «end» }
-    requires inside { «end» ≤ length bytes.now }
-    ensures { S.took sink.old sink.new (slice bytes.now at «end») }
+// Gives a part of the bytes.
+pub fn give_part<S: Sink>(bytes: &[u8], part: Span, sink: &mut S)
+    requires ordered { part.at ≤ part.«end» }
+    requires inside { part.«end» ≤ length bytes.now }
+    ensures { S.took sink.old sink.new (slice bytes.now part.at part.«end») }
 {
-    sink.take(&bytes[at..end]);
+    sink.take(&bytes[part.at..part.end]);
 }
 
 // Gives what the hide, whose form begins at `form`, has for the other side: what it shows of a source, or what it puts where
 // there was none.
-pub(crate) fn give_hidden<S: Sink>(row: &[u8], side: Side, form: usize, sink: &mut S)
-    requires short { length row.now ≤ 1024 }
-    ensures { (p : Hidden) (e : ℕ) → Laid hidden_row HiddenFine row.now form e p → S.took sink.old sink.new (other_text side p.1.0 p.1.1) }
+pub(crate) fn give_hidden<S: Sink>(row: &Row, side: Side, form: usize, sink: &mut S)
+    ensures { (p : Hidden) (e : ℕ) → Laid hidden_row HiddenFine row.now.bytes.now form e p → S.took sink.old sink.new (other_text side p.1.0 p.1.1) }
 {
-    let Some(shown) = part_end(row, form, Kind::Form) else {
+    let Some(shown) = row.part_end(form, Kind::Form) else {
         return;
     };
-    let Some(fresh) = part_end(row, shown, Kind::Text) else {
+    let Some(fresh) = row.part_end(shown, Kind::Text) else {
         return;
     };
     match side {
@@ -38,12 +39,11 @@ pub(crate) fn give_hidden<S: Sink>(row: &[u8], side: Side, form: usize, sink: &m
 }
 
 // Gives the text at `at`, without its length.
-fn give_text<S: Sink>(row: &[u8], at: usize, sink: &mut S)
-    requires short { length row.now ≤ 1024 }
-    ensures { (v : Text) (e : ℕ) → Laid text_row TextFine row.now at e v → S.took sink.old sink.new v }
+fn give_text<S: Sink>(row: &Row, at: usize, sink: &mut S)
+    ensures { (v : Text) (e : ℕ) → Laid text_row TextFine row.now.bytes.now at e v → S.took sink.old sink.new v }
 {
-    let Some(end) = part_end(row, at, Kind::Text) else {
+    let Some(end) = row.part_end(at, Kind::Text) else {
         return;
     };
-    give_part(row, at + 1, end, sink);
+    give_part(row.bytes, Span { at: at + 1, end }, sink);
 }

@@ -1,74 +1,100 @@
-// The walk over a cut text, by the view of a row: from each part of the text to what it turns into on the other side.
-ghost use Rattle.std.specs.Prelude.{◌≡◌, ◌≤◌, length};
-ghost use Rattle.lens.specs.Views.{View, each};
-ghost use Rattle.walk.specs.Turns.{Turns, GivesSome, slice, front, back};
-ghost use Rattle.walk.specs.CutWalks.{Sound, CutWalk, CutWalks, CutSeries, SomeCutSeries};
+// A cut text with the row of its view, and the walk over it: what each part turns into on the other side.
+// Not here: views without views in them (give.rt), and where the parts of a text are (cut_text.rt).
+ghost use Rattle.std.specs.Prelude.{◌≡◌};
+ghost use Rattle.walk.specs.Turns.{front, back};
 
 use crate::cut_text::CutText;
+use crate::delivery::Give;
 use crate::give::{give_hidden, give_part};
 use crate::sink::Sink;
+use crate::span::Span;
 use clear::Side;
-use rows::{ViewNode, view_node};
+use rows::{Row, ViewNode, view_node};
 
-// Gives what the part of the view at `place`, from `at` to `end` of the text, turns into on the other side.
-#[cycle(turning)]
-pub fn turn_part<S: Sink>(
-    row: &[u8],
-    cut: &CutText,
-    place: usize,
-    at: usize,
-    end: usize,
-    sink: &mut S,
-)
-    requires short { length row.now ≤ 1024 }
-    requires sound { Sound cut.now }
-    requires walks { CutWalks row.now cut.now place at «end» }
-    ensures { (v : View) → CutWalk row.now cut.now place at «end» v → GivesSome (Turns cut.now.side v (slice cut.now.text.now at «end»)) (S.took sink.old sink.new) }
-{
-    let Some(node) = view_node(row, place) else {
-        return;
-    };
-    match node {
-        ViewNode::Copy(_) => give_part(cut.text, at, end, sink),
-        ViewNode::Hide(form) => give_hidden(row, cut.side, form, sink),
-        ViewNode::Then(first) => {
-            let second = cut.second_of(place, first);
-            let middle = cut.end_of(first, at);
-            turn_part(row, cut, first, at, middle, sink);
-            turn_part(row, cut, second, middle, end, sink);
-        }
-        ViewNode::Swap(first) => {
-            let second = cut.second_of(place, first);
-            let (front, back) = in_order(cut.side, first, second);
-            let middle = cut.end_of(front, at);
-            turn_part(row, cut, back, middle, end, sink);
-            turn_part(row, cut, front, at, middle, sink);
-        }
-        ViewNode::Either(first) => {
-            let second = cut.second_of(place, first);
-            if cut.takes_first(first, second, at) {
-                turn_part(row, cut, first, at, end, sink);
-            } else {
-                turn_part(row, cut, second, at, end, sink);
-            }
-        }
-        ViewNode::Each(body) => turn_each(row, cut, body, at, end, sink),
+#[derive(Clone, Copy)]
+pub struct Turned<'v, 'w, 't> {
+    pub row: Row<'v>,
+    pub cut: CutText<'w, 't>,
+}
+
+impl<'v, 'w, 't> Give for Turned<'v, 'w, 't> {
+    ghost use Rattle.walk.specs.Turned.{CutWhole, TurnedWhole, turned_one};
+
+    ghost can = { λ s. CutWhole s.row.bytes.now s.cut };
+
+    ghost gives = { λ s u. TurnedWhole s.row.bytes.now s.cut u };
+
+    ghost one = { λ s u w c a b. turned_one c a b };
+
+    fn give<S: Sink>(&self, sink: &mut S) {
+        self.turn_part(0, Span::all(self.cut.scanned.text), sink);
     }
 }
 
-// Gives what the parts of the view at `place` turn into, one after the other, from `at` to `end` of the text.
-#[cycle(turning)]
-fn turn_each<S: Sink>(row: &[u8], cut: &CutText, place: usize, at: usize, end: usize, sink: &mut S)
-    requires short { length row.now ≤ 1024 }
-    requires sound { Sound cut.now }
-    requires parts { SomeCutSeries row.now cut.now place at «end» }
-    ensures { (l : View) → CutSeries row.now cut.now place at «end» l → GivesSome (Turns cut.now.side (each l) (slice cut.now.text.now at «end»)) (S.took sink.old sink.new) }
-{
-    let mut from = at;
-    'parts: while from < end {
-        let next = cut.end_of(place, from);
-        turn_part(row, cut, place, from, next, sink);
-        from = next;
+impl<'v, 'w, 't> Turned<'v, 'w, 't> {
+    ghost use Rattle.std.specs.Prelude.{◌≤◌, length};
+    ghost use Rattle.lens.specs.Views.{View, each};
+    ghost use Rattle.walk.specs.Spans.{slice};
+    ghost use Rattle.walk.specs.Turns.{Turns, GivesSome};
+    ghost use Rattle.walk.specs.Walks.{CutWalk, CutWalks, CutSeries, SomeCutSeries};
+
+    // Gives what the part of the view at `place` turns into on the other side.
+    #[cycle(turning)]
+    pub fn turn_part<S: Sink>(&self, place: usize, part: Span, sink: &mut S)
+        requires { CutWalks self.now.row.bytes.now self.now.cut place part.at part.«end» }
+        ensures { (v : View) → CutWalk self.now.row.bytes.now self.now.cut place part.at part.«end» v → GivesSome (Turns self.now.cut.side v (slice self.now.cut.scanned.text.now part.at part.«end»)) (S.took sink.old sink.new) }
+    {
+        let cut = &self.cut;
+        let Some(node) = view_node(self.row.bytes, place) else {
+            return;
+        };
+        match node {
+            ViewNode::Copy(_) => give_part(cut.scanned.text, part, sink),
+            ViewNode::Hide(form) => give_hidden(&self.row, cut.side, form, sink),
+            ViewNode::Then(first) => {
+                let second = cut.second_of(place, first);
+                let (front, back) = part.split(cut.end_of(first, part.at));
+                self.turn_part(first, front, sink);
+                self.turn_part(second, back, sink);
+            }
+            ViewNode::Swap(first) => {
+                let second = cut.second_of(place, first);
+                let (ahead, behind) = in_order(cut.side, first, second);
+                let (front, back) = part.split(cut.end_of(ahead, part.at));
+                self.turn_part(behind, back, sink);
+                self.turn_part(ahead, front, sink);
+            }
+            ViewNode::Either(first) => {
+                let second = cut.second_of(place, first);
+                if cut.takes_first(first, second, part.at) {
+                    self.turn_part(first, part, sink);
+                } else {
+                    self.turn_part(second, part, sink);
+                }
+            }
+            ViewNode::Each(body) => self.turn_each(body, part, sink),
+        }
+    }
+
+    // Gives what the parts of the view at `place` turn into, one after the other.
+    #[cycle(turning)]
+    fn turn_each<S: Sink>(&self, place: usize, parts: Span, sink: &mut S)
+        requires { SomeCutSeries self.now.row.bytes.now self.now.cut place parts.at parts.«end» }
+        ensures { (l : View) → CutSeries self.now.row.bytes.now self.now.cut place parts.at parts.«end» l → GivesSome (Turns self.now.cut.side (each l) (slice self.now.cut.scanned.text.now parts.at parts.«end»)) (S.took sink.old sink.new) }
+    {
+        let mut from = parts.at;
+        'parts: while from < parts.end {
+            let next = self.cut.end_of(place, from);
+            self.turn_part(
+                place,
+                Span {
+                    at: from,
+                    end: next,
+                },
+                sink,
+            );
+            from = next;
+        }
     }
 }
 

@@ -5,6 +5,7 @@ ghost use Rattle.walk.specs.Writes.{Wrote, wrote_none, wrote_both};
 
 use crate::sink::Sink;
 
+// The bytes are lent, and what is behind the text stays: so they are no Vec.
 #[derive(Drop)]
 pub struct Written<'a> {
     pub bytes: &'a mut [u8],

@@ -1,4 +1,4 @@
-use Rattle.std.proofs.Common.{refl}
+use Rattle.std.proofs.Common.{◌≡◌, not, ◌&&◌, refl, ap, ap₂, ◌∙◌}
 use Rattle.rows.specs.Rows.{view_row, ViewFine}
 use Rattle.rows.proofs.Builds.{nowhere_first, nowhere_tagged}
 use Rattle.rows.proofs.Tags.{builds_then, builds_swap, builds_either}
@@ -9,31 +9,37 @@ use Rattle.clear.proofs.fill.+filling.Goals as goal
 -- Two views and their condition
 pub fill_series-returns : goal.fill_series-returns
 fill_series-returns t c =
+    let told : c.bitand-2.result.yes ≡ (c.in_ok-front.front.yes && c.in_ok-end.back.yes) && not c.crosses-crossed.result.yes = c.bitand-2.ensures ∙ ap₂ ◌&&◌ c.bitand.ensures c.not.ensures in
     record {
-      fills = finds_series c.requires.second_after refl refl c.put_step.ensures c.in_ok-front.ensures.fills c.in_ok-back.ensures.fills c.crosses-crossed.ensures;
-      bounded = c.in_ok-back.ensures.bounded;
+      fills = finds_series c.requires.second_after refl told c.put_step.ensures c.in_ok-front.ensures.fills c.in_ok-end.ensures.fills (rw c.laid.ensures.table at c.crosses-crossed.ensures);
+      bounded = c.in_ok-end.ensures.bounded;
     }
 
 pub fill_turned-returns : goal.fill_turned-returns
 fill_turned-returns t c =
+    let told : c.bitand-2.result.yes ≡ (c.in_ok-back.back.yes && c.in_ok-end.front.yes) && not c.crosses-crossed.result.yes = c.bitand-2.ensures ∙ ap₂ ◌&&◌ c.bitand.ensures c.not.ensures in
     record {
-      fills = finds_turned c.requires.second_after refl refl c.put_step.ensures c.in_ok-back.ensures.fills c.in_ok-front.ensures.fills c.crosses-crossed.ensures;
-      bounded = c.in_ok-front.ensures.bounded;
+      fills = finds_turned c.requires.second_after refl told c.put_step.ensures c.in_ok-back.ensures.fills c.in_ok-end.ensures.fills (rw c.laid.ensures.table at c.crosses-crossed.ensures);
+      bounded = c.in_ok-end.ensures.bounded;
     }
 
 pub fill_choice-returns : goal.fill_choice-returns
 fill_choice-returns t c =
+    let told : c.bitand-2.result.yes ≡ (c.in_ok-left.left.yes && c.in_ok-end.right.yes) && not c.meets-both.result.yes = c.bitand-2.ensures ∙ ap₂ ◌&&◌ c.bitand.ensures c.not.ensures in
     record {
-      fills = finds_choice c.requires.second_after refl refl c.put_step.ensures c.in_ok-left.ensures.fills c.in_ok-right.ensures.fills c.meets-both.ensures;
-      bounded = c.in_ok-right.ensures.bounded;
+      fills = finds_choice c.requires.second_after refl told c.put_step.ensures c.in_ok-left.ensures.fills c.in_ok-end.ensures.fills (rw c.laid.ensures.table at c.meets-both.ensures);
+      bounded = c.in_ok-end.ensures.bounded;
     }
 
 -- Parts and their conditions
 pub fill_parts-returns : goal.fill_parts-returns
 fill_parts-returns t c =
+    let told : c.bitand-2.result.yes ≡ c.in_ok-end.body.yes && (not c.meets-empty.result.yes && not c.crosses-crossed.result.yes) =
+    c.bitand-2.ensures ∙ ap (λ b. c.in_ok-end.body.yes && b) (c.bitand.ensures ∙ ap₂ ◌&&◌ c.not.ensures c.not-2.ensures)
+    in
     record {
-      fills = finds_parts refl refl c.put_step.ensures c.in_ok-body.ensures.fills c.meets-empty.ensures c.crosses-crossed.ensures;
-      bounded = c.in_ok-body.ensures.bounded;
+      fills = finds_parts refl told c.put_step.ensures c.in_ok-end.ensures.fills (rw c.laid.ensures.table at c.meets-empty.ensures) (rw c.laid-2.ensures.table at c.crosses-crossed.ensures);
+      bounded = c.in_ok-end.ensures.bounded;
     }
 
 -- Views, by their tags
@@ -61,49 +67,49 @@ fill_view-returns-in-Look t c =
 pub fill_view-returns-in_err-second-in-Then : goal.fill_view-returns-in_err-second-in-Then
 fill_view-returns-in_err-second-in-Then t c =
     record {
-      fills = rw c.from_residual-in_err-second-in-Then.ensures (view_nowhere (nowhere_tagged builds_then (rw c.in-Then.is at c.in_ok-view_node.ensures) (nowhere_first view_row ViewFine view_row ViewFine (c.in_err-second-in-Then.ensures.ends c.requires.short))));
-      bounded = c.requires.bounded;
+      fills = rw c.from_residual-in_err-second-in-Then.ensures (view_nowhere (nowhere_tagged builds_then (rw c.in-Then.is at c.in_ok-view_node.ensures) (nowhere_first view_row ViewFine view_row ViewFine c.in_err-second-in-Then.ensures)));
+      bounded = c.requires.ready.bounded;
     }
 
 pub fill_view-returns-in_ok-second-in-Then : goal.fill_view-returns-in_ok-second-in-Then
 fill_view-returns-in_ok-second-in-Then t c =
     record {
-      fills = view_then c.args.side (rw c.in-Then.is at c.in_ok-view_node.ensures) (c.in_ok-second-in-Then.ensures.ends c.requires.short) c.fill_series.ensures.fills;
+      fills = view_then c.args.side (rw c.in-Then.is at c.in_ok-view_node.ensures) c.in_ok-second-in-Then.ensures c.fill_series.ensures.fills;
       bounded = c.fill_series.ensures.bounded;
     }
 
 pub fill_view-returns-in_err-second-in-Swap : goal.fill_view-returns-in_err-second-in-Swap
 fill_view-returns-in_err-second-in-Swap t c =
     record {
-      fills = rw c.from_residual-in_err-second-in-Swap.ensures (view_nowhere (nowhere_tagged builds_swap (rw c.in-Swap.is at c.in_ok-view_node.ensures) (nowhere_first view_row ViewFine view_row ViewFine (c.in_err-second-in-Swap.ensures.ends c.requires.short))));
-      bounded = c.requires.bounded;
+      fills = rw c.from_residual-in_err-second-in-Swap.ensures (view_nowhere (nowhere_tagged builds_swap (rw c.in-Swap.is at c.in_ok-view_node.ensures) (nowhere_first view_row ViewFine view_row ViewFine c.in_err-second-in-Swap.ensures)));
+      bounded = c.requires.ready.bounded;
     }
 
 pub fill_view-returns-in-Source-side : goal.fill_view-returns-in-Source-side
 fill_view-returns-in-Source-side t c =
     record {
-      fills = rw c.in-Source-side.is (view_swap (rw c.in-Swap.is at c.in_ok-view_node.ensures) (c.in_ok-second-in-Swap.ensures.ends c.requires.short) (rw c.in-Source-side.is at c.fill_series-in-Source-side.ensures.fills));
+      fills = rw c.in-Source-side.is (view_swap (rw c.in-Swap.is at c.in_ok-view_node.ensures) c.in_ok-second-in-Swap.ensures (rw c.in-Source-side.is at c.fill_series-in-Source-side.ensures.fills));
       bounded = c.fill_series-in-Source-side.ensures.bounded;
     }
 
 pub fill_view-returns-in-Look-side : goal.fill_view-returns-in-Look-side
 fill_view-returns-in-Look-side t c =
     record {
-      fills = rw c.in-Look-side.is (view_turned (rw c.in-Swap.is at c.in_ok-view_node.ensures) (c.in_ok-second-in-Swap.ensures.ends c.requires.short) (rw c.in-Look-side.is at c.fill_turned.ensures.fills));
+      fills = rw c.in-Look-side.is (view_turned (rw c.in-Swap.is at c.in_ok-view_node.ensures) c.in_ok-second-in-Swap.ensures (rw c.in-Look-side.is at c.fill_turned.ensures.fills));
       bounded = c.fill_turned.ensures.bounded;
     }
 
 pub fill_view-returns-in_err-second-in-Either : goal.fill_view-returns-in_err-second-in-Either
 fill_view-returns-in_err-second-in-Either t c =
     record {
-      fills = rw c.from_residual-in_err-second-in-Either.ensures (view_nowhere (nowhere_tagged builds_either (rw c.in-Either.is at c.in_ok-view_node.ensures) (nowhere_first view_row ViewFine view_row ViewFine (c.in_err-second-in-Either.ensures.ends c.requires.short))));
-      bounded = c.requires.bounded;
+      fills = rw c.from_residual-in_err-second-in-Either.ensures (view_nowhere (nowhere_tagged builds_either (rw c.in-Either.is at c.in_ok-view_node.ensures) (nowhere_first view_row ViewFine view_row ViewFine c.in_err-second-in-Either.ensures)));
+      bounded = c.requires.ready.bounded;
     }
 
 pub fill_view-returns-in_ok-second-in-Either : goal.fill_view-returns-in_ok-second-in-Either
 fill_view-returns-in_ok-second-in-Either t c =
     record {
-      fills = view_either c.args.side (rw c.in-Either.is at c.in_ok-view_node.ensures) (c.in_ok-second-in-Either.ensures.ends c.requires.short) c.fill_choice.ensures.fills;
+      fills = view_either c.args.side (rw c.in-Either.is at c.in_ok-view_node.ensures) c.in_ok-second-in-Either.ensures c.fill_choice.ensures.fills;
       bounded = c.fill_choice.ensures.bounded;
     }
 

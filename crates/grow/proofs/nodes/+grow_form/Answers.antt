@@ -13,21 +13,21 @@ returns-in-Empty t c = form_empty (rw c.in-Empty.is at c.in-Some.ensures) c.put_
 
 pub returns-in-One : goal.returns-in-One
 returns-in-One t c =
-    let node = subst (λ n. IsFormNode c.args.row.now c.args.at (Some n)) c.in-One.is c.in-Some.ensures in
+    let node = subst (λ n. IsFormNode c.args.row.now.bytes.now c.args.at (Some n)) c.in-One.is c.in-Some.ensures in
     form_one node.0 c.put_node-in-One.ensures
 
 -- Two parts
 pub returns-in_default-part_end : goal.returns-in_default-part_end
-returns-in_default-part_end t c = nowhere_grows (nowhere_tagged builds_seq (rw c.in-Seq.is at c.in-Some.ensures) (nowhere_first form_row FormFine form_row FormFine (c.in_default-part_end.ensures.ends c.requires.short)))
+returns-in_default-part_end t c = nowhere_grows (nowhere_tagged builds_seq (rw c.in-Seq.is at c.in-Some.ensures) (nowhere_first form_row FormFine form_row FormFine c.in_default-part_end.ensures))
 
 pub returns-in-Some-part_end : goal.returns-in-Some-part_end
-returns-in-Some-part_end t c = form_seq (rw c.in-Seq.is at c.in-Some.ensures) (c.in-Some-part_end.ensures.ends c.requires.short) c.put_node-in-Seq.ensures c.grow_form.ensures c.grow_form-in-Seq.ensures
+returns-in-Some-part_end t c = form_seq (rw c.in-Seq.is at c.in-Some.ensures) c.in-Some-part_end.ensures c.put_node-in-Seq.ensures c.grow_form.ensures c.grow_form-in-Seq.ensures
 
 pub returns-in_default-part_end-2 : goal.returns-in_default-part_end-2
-returns-in_default-part_end-2 t c = nowhere_grows (nowhere_tagged builds_or (rw c.in-Or.is at c.in-Some.ensures) (nowhere_first form_row FormFine form_row FormFine (c.in_default-part_end-2.ensures.ends c.requires.short)))
+returns-in_default-part_end-2 t c = nowhere_grows (nowhere_tagged builds_or (rw c.in-Or.is at c.in-Some.ensures) (nowhere_first form_row FormFine form_row FormFine c.in_default-part_end-2.ensures))
 
 pub returns-in-Some-part_end-2 : goal.returns-in-Some-part_end-2
-returns-in-Some-part_end-2 t c = form_or (rw c.in-Or.is at c.in-Some.ensures) (c.in-Some-part_end-2.ensures.ends c.requires.short) c.put_node-in-Or.ensures c.grow_form-in-Or.ensures c.grow_form-in-Or-2.ensures
+returns-in-Some-part_end-2 t c = form_or (rw c.in-Or.is at c.in-Some.ensures) c.in-Some-part_end-2.ensures c.put_node-in-Or.ensures c.grow_form-in-Or.ensures c.grow_form-in-Or-2.ensures
 
 -- One part
 pub returns-in-Many : goal.returns-in-Many

@@ -1,5 +1,6 @@
-use Rattle.grow.proofs.EachKind.{tree_grown}
+use Rattle.std.proofs.Common.{rules, arith}
+use Rattle.grow.proofs.EachKind.{bare_zeros, tree_grown}
 use Rattle.grow.proofs.nodes.grow.Goals as goal
 
 pub returns : goal.returns
-returns c = tree_grown c.erase.ensures c.grow_view.ensures
+returns c = tree_grown (bare_zeros (omega (arith, c.fill.auto.self)) (λ k h. search rules)) c.grow_view.ensures

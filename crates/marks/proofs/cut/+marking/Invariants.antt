@@ -6,17 +6,17 @@ use Rattle.marks.proofs.Passing.{Run}
 use Rattle.marks.proofs.cut.+marking.Given as goal
 
 abbrev pub decreases-mark_inner : goal.decreases-mark_inner
-decreases-mark_inner l = 3 * (l.tree.now.size - l.place)
+decreases-mark_inner l = 3 * (l.scanned.now.tree.size - l.place)
 
 abbrev pub decreases-mark_part : goal.decreases-mark_part
-decreases-mark_part l = 3 * (l.tree.now.size - l.place) + 1
+decreases-mark_part l = 3 * (l.scanned.now.tree.size - l.place) + 1
 
 abbrev pub decreases-mark_series : goal.decreases-mark_series
-decreases-mark_series l = 3 * (l.tree.now.size - l.place) + 2
+decreases-mark_series l = 3 * (l.scanned.now.tree.size - l.place) + 2
 
 abbrev pub invariant-mark_series-parts : goal.invariant-mark_series-parts
 invariant-mark_series-parts l =
-    Run l.tree l.text l.starts l.place l.initial.marks l.marks l.at l.end × HereSeries l.tree l.text l.place l.end
+    Run l.scanned l.place l.initial.marks l.marks l.at l.end × HereSeries l.scanned l.place l.end
 
 abbrev pub decreases-mark_series-parts : goal.decreases-mark_series-parts
-decreases-mark_series-parts l = length l.text - l.end
+decreases-mark_series-parts l = length l.scanned.text.now - l.end

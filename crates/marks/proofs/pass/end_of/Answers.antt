@@ -1,25 +1,23 @@
-use Rattle.std.proofs.Common.{length, sym, arith}
-use Rattle.trees.proofs.Tables.{row_within}
+use Rattle.std.proofs.Common.{◌≡◌, ◌+◌, ◌-◌, MatchOption, true, false, length, refl, sym, rules}
+use Rattle.std.proofs.lemmas.Iterator.{YieldsList-from_range, first_from_find}
+use borrow.Author.Tests.{tests}
+use Rattle.trees.specs.Cells.{cell}
 use Rattle.marks.proofs.Places.{before_end}
-use Rattle.marks.proofs.Ends.{part_empty, part_first_mark, part_has_mark, none_more}
+use Rattle.marks.proofs.Ends.{part_empty, part_found}
 use Rattle.marks.proofs.pass.end_of.Goals as goal
 
-pub returns-then-not-starts_at : goal.returns-then-not-starts_at
-returns-then-not-starts_at c = λ e part. part_empty part (sym c.if-not-starts_at.ensures)
-
-pub cell_at-requires : goal.cell_at-requires
-cell_at-requires c = record {
-  small = omega (arith, row_within c.loop-last.last (length c.args.text.now) c.args.tree.now.size (omega arith));
-}
-
-pub returns-then-cell_at : goal.returns-then-cell_at
-returns-then-cell_at c = λ e part.
-    part_first_mark part (sym c.if-not-starts_at.ensures) c.loop-last.auto.last (sym c.if-cell_at.ensures) c.loop-last.invariant
-
-pub loop-last-preserved : goal.loop-last-preserved
-loop-last-preserved c = none_more c.loop-last.invariant (sym c.if-cell_at.ensures)
+pub returns-then-not-begins_at : goal.returns-then-not-begins_at
+returns-then-not-begins_at c = λ e part. part_empty part (sym c.if-not-begins_at.ensures.begun)
 
 pub returns : goal.returns
-returns c = λ e part. absurd (part_has_mark
-    (before_end c.args.tree.now c.args.text.now c.args.starts.now)
-    part (sym c.if-not-starts_at.ensures) c.loop-last-test.false c.loop-last.invariant)
+returns c = λ e part.
+    let scanned = c.args.scanned.now in
+    let marks = c.args.marks.now in
+    let q = c.args.place in
+    let i = c.args.at in
+    let n = length scanned.text.now in
+    let first =
+    first_from_find _ _ _ (λ j. cell scanned.tree marks j q ≡ true) (λ j. cell scanned.tree marks j q ≡ false) c.find.ensures.ran
+    (YieldsList-from_range i n (n - i) refl refl) (λ x f called. search (rules, tests)) (λ x f called. search (rules, tests)) in
+    let is : MatchOption c.find.result (c.map_or.result ≡ n) (λ last. c.map_or.result ≡ last + 1) = search (rules, tests) in
+    part_found q i n c.find.result c.map_or.result (before_end scanned) part (sym c.if-not-begins_at.ensures.begun) first is

@@ -7,12 +7,9 @@ use Rattle.marks.proofs.pass.mark_all.Goals as goal
 pub mark_part-requires : goal.mark_part-requires
 mark_part-requires c =
     record {
-      ready = c.requires.ready;
-      tabled = c.requires.tabled;
-      small = c.requires.small;
       room = omega arith;
-      fresh = cleared c.args.tree.now c.clear.ensures;
-      here = here_root c.requires.grown c.if-not-matches.ensures;
+      fresh = cleared c.args.scanned.now.tree c.clear.ensures;
+      here = here_root c.args.scanned.now c.requires.grown c.if-not-matches.ensures;
     }
 
 pub returns : goal.returns
@@ -21,6 +18,6 @@ returns c =
     record {
       accepts = c.if-not-matches.ensures;
       marked = λ yes.
-          subst (Part c.args.tree.now c.args.text.now c.args.starts.now c.mark_part.new.marks c.args.tree.now.root 0)
-          (root_ends c.requires.ready c.requires.tabled c.requires.grown c.if-not-matches.ensures cut) cut;
+          subst (Part c.args.scanned.now c.mark_part.new.marks c.args.scanned.now.tree.root 0)
+          (root_ends c.args.scanned.now c.requires.grown c.if-not-matches.ensures cut) cut;
     }

@@ -1,16 +1,8 @@
 use Rattle.std.proofs.Common.{[], ◌∷◌, get_or, take}
 use Rattle.lens.specs.Forms.{one}
 use Rattle.rows.specs.Rows.{form_row}
-use Rattle.notation.proofs.Spelling.{grown_none, grown_then, grown_as, letters, letters_more, spelled_none, spelled_all}
+use Rattle.notation.proofs.Spelling.{grown_then, grown_as, letters, letters_more, spelled_all}
 use Rattle.notation.proofs.forms.literal.Goals as goal
-
-pub returns-in_default : goal.returns-in_default
-returns-in_default c =
-    let pushed = c.in_ok-push.ensures in
-    grown_as (spelled_none _ c.in_default.ensures.cases) (record { grows = pushed.grows; becomes = pushed.becomes })
-
-pub loop-byte-init : goal.loop-byte-init
-loop-byte-init c = grown_none c.args.row.now
 
 pub loop-byte-preserved : goal.loop-byte-preserved
 loop-byte-preserved c =
@@ -19,7 +11,7 @@ loop-byte-preserved c =
     let pushed = c.in_ok-push-2.ensures in
     grown_as (letters_more front i c.loop-byte-test.true)
     (grown_then (letters (take i front)) (2 ∷ 1 ∷ get_or front i 0 ∷ get_or front i 0 ∷ []) c.loop-byte.invariant
-    (grown_then (2 ∷ []) (1 ∷ get_or front i 0 ∷ get_or front i 0 ∷ []) (record { grows = pushed.grows; becomes = pushed.becomes }) c.in_ok-range.ensures))
+    (grown_then (2 ∷ []) (1 ∷ get_or front i 0 ∷ get_or front i 0 ∷ []) pushed c.in_ok-range.ensures))
 
 pub returns : goal.returns
 returns c =

@@ -4,4 +4,4 @@ use Rattle.pairs.proofs.search.enter.Given as goal
 
 abbrev pub invariant-loop-state : goal.invariant-loop-state
 invariant-loop-state l =
-    Enters l.before.states (stopped l.before.table.now l.before.end) l.before.end l.seen l.state l.entered
+    Enters l.before.automaton.states (stopped l.before.automaton.table.now l.before.end) l.before.end l.seen l.state l.entered

@@ -3,21 +3,18 @@ use Rattle.reach.proofs.Advances.{advances_none, advances_then, advances_few, cl
 use Rattle.reach.proofs.search.close.Goals as goal
 
 pub loop-node-init : goal.loop-node-init
-loop-node-init g c = (c.find_any-node.ensures, advances_none _ _)
+loop-node-init g c = advances_none _ _
 
 pub overflow_add-visits : goal.overflow_add-visits
-overflow_add-visits g c = let few = advances_few c.drain.ensures in omega arith
+overflow_add-visits g c = let few = advances_few c.drain.ensures in omega (arith, g.met.G.Graph.few c.args.g.now)
 
-pub overflow_add-visits-in-loop-node : goal.overflow_add-visits-in-loop-node
-overflow_add-visits-in-loop-node g c =
-    let few = advances_few (advances_then c.loop-node.invariant.1 (advances_then c.visit-top.ensures.way c.drain.ensures)) in
-    omega arith
+pub overflow_add-visits-in-Some : goal.overflow_add-visits-in-Some
+overflow_add-visits-in-Some g c =
+    let few = advances_few (advances_then c.loop-node.invariant (advances_then c.visit.ensures.way c.drain.ensures)) in
+    omega (arith, g.met.G.Graph.few c.args.g.now)
 
 pub loop-node-preserved : goal.loop-node-preserved
-loop-node-preserved g c = (
-  c.find_any-node-in-loop-node.ensures,
-  advances_then c.loop-node.invariant.1 (advances_then c.visit-top.ensures.way c.drain.ensures),
-)
+loop-node-preserved g c = advances_then c.loop-node.invariant (advances_then c.visit.ensures.way c.drain.ensures)
 
 pub returns : goal.returns
-returns g c = closed_end c.clear.ensures c.loop-node.invariant.1 (λ j less. c.loop-node.invariant.0.none c.loop-node-test.false j (omega arith))
+returns g c = closed_end c.clear.ensures c.loop-node.invariant (λ j less. c.in_default.ensures j (omega arith))

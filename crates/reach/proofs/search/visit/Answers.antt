@@ -1,5 +1,5 @@
 use Rattle.reach.proofs.Advances.{advances_visit}
 use Rattle.reach.proofs.search.visit.Goals as goal
 
-pub returns : goal.returns
-returns g c = record { way = advances_visit c.requires.inside c.requires.fresh c.set.ensures c.expand.ensures.all; high = c.expand.ensures.high }
+pub returns-clause-way : goal.returns-clause-way
+returns-clause-way g c = advances_visit c.requires.inside c.requires.fresh c.set.ensures c.expand.ensures.all

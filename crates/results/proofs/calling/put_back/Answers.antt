@@ -1,4 +1,4 @@
-use Rattle.std.proofs.Common.{◌≡◌, length, vec_items, arith}
+use Rattle.std.proofs.Common.{◌≡◌, ◌+◌, length, vec_items, arith}
 use Rattle.std.proofs.lemmas.List.{take_at}
 use Rattle.std.proofs.lemmas.Result.{MatchResult-weaker}
 use Rattle.results.proofs.Finished.{answers_put, leaves_wanted, leaves_unwanted}
@@ -7,10 +7,10 @@ use Rattle.results.proofs.calling.put_back.Goals as goal
 pub returns : goal.returns
 returns c =
     let answers = answers_put c.put-made.ensures in
-    let lent = c.in-Ok.ensures in
-    let same : length c.put-made.new.out ≡ c.in-Ok.lent.out.len = omega arith in
+    let lent = c.in_ok-lent.ensures in
+    let same : length c.put-made.new.out ≡ c.in_ok-lent.lent.out.len = omega arith in
     MatchResult-weaker
     c.finish.result
     c.finish.ensures
     (λ changed leaves. leaves_wanted answers (vec_items changed) (rw take_at at leaves))
-    (λ why none. leaves_unwanted _ answers (omega arith) why (rw c.deref_mut.ensures.len none))
+    (λ why none. leaves_unwanted (length c.args.source.now + length c.args.look.now) answers (omega arith) why (rw c.deref_mut.ensures.len none))

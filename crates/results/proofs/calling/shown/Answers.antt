@@ -7,10 +7,10 @@ use Rattle.results.proofs.calling.shown.Goals as goal
 pub returns : goal.returns
 returns c =
     let answers = answers_shown c.show-made.ensures in
-    let lent = c.in-Ok.ensures in
-    let same : length c.show-made.new.out ≡ c.in-Ok.lent.out.len = omega arith in
+    let lent = c.in_ok-lent.ensures in
+    let same : length c.show-made.new.out ≡ c.in_ok-lent.lent.out.len = omega arith in
     MatchResult-weaker
     c.finish.result
     c.finish.ensures
     (λ look leaves. leaves_wanted answers (vec_items look) (rw take_at at leaves))
-    (λ why none. leaves_unwanted _ answers (omega arith) why (rw c.deref_mut.ensures.len none))
+    (λ why none. leaves_unwanted (length c.args.source.now) answers (omega arith) why (rw c.deref_mut.ensures.len none))

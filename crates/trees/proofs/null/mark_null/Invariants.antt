@@ -1,6 +1,6 @@
 -- The places from this one on have their bits.
 use Rattle.bits.specs.Bits.{bit}
-use Rattle.trees.specs.Rows.{Nulls}
+use Rattle.trees.specs.Ready.{Nulls}
 use Rattle.trees.proofs.null.mark_null.Given as goal
 
 abbrev pub invariant-loop-place : goal.invariant-loop-place

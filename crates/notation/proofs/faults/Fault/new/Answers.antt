@@ -1,10 +1,7 @@
 use Rattle.std.proofs.Common.{◌-◌, take, refl, ◌∙◌}
-use Rattle.notation.proofs.Placing.{behind_none, behind_newline, behind_other, behind_all}
+use Rattle.notation.proofs.Placing.{behind_newline, behind_other, behind_all}
 use Rattle.notation.proofs.faults.Fault.new.Goals as goal
 use Rattle.notation.proofs.faults.Fault.new.Goals.{then-byte-eq10, else-byte-eq10}
-
-pub loop-byte-init : goal.loop-byte-init
-loop-byte-init c = behind_none
 
 pub loop-byte-preserved : goal.loop-byte-preserved
 loop-byte-preserved c =

@@ -1,0 +1,2 @@
+-- Records of four words.
+pub mod Records

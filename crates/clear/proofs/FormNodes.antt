@@ -37,21 +37,11 @@ fills_one {at = at} {next = next} {a = a} {b = b} {t = t} {t' = t'} h c = record
 
 -- Two parts: the first was laid to go on at next₁, the second to go on at next.
 module _ {s : List ℕ} {at m : ℕ} where
-  -- where the first part was not laid, none stands there
-  pub fills_unlaid : {t t' t'' : List ℕ} {i next next₁ : ℕ} → ((f : Form) (e : ℕ) → Laid form_row FormFine s at e f → (g : Form) × Laid form_row FormFine s i m g) → FormFills s i next₁ t t' None → FormFills s at next t'' t' None
-  fills_unlaid part a = fills_none (λ f e l. let (g, p) = part f e l in a.fills g m p)
-
   two_seq : {i : ℕ} → Tagged s at 2 i → Stands form_row FormFine s i m → (f : Form) (e : ℕ) → Laid form_row FormFine s at e f → (p : Form × Form) × (f ≡ seq p.0 p.1) × (Laid form_row FormFine s i m p.0 × Laid form_row FormFine s m e p.1)
   two_seq g a f e l = let (p, is, parts) = laid_behind builds_seq (both_long form_row form_row form_long) g l in (p, is, laid_both splits_form form_long p a parts)
 
   two_or : {i : ℕ} → Tagged s at 3 i → Stands form_row FormFine s i m → (f : Form) (e : ℕ) → Laid form_row FormFine s at e f → (p : Form × Form) × (f ≡ or p.0 p.1) × (Laid form_row FormFine s i m p.0 × Laid form_row FormFine s m e p.1)
   two_or g a f e l = let (p, is, parts) = laid_behind builds_or (both_long form_row form_row form_long) g l in (p, is, laid_both splits_form form_long p a parts)
-
-  pub first_of_seq : {i : ℕ} → Tagged s at 2 i → Stands form_row FormFine s i m → (f : Form) (e : ℕ) → Laid form_row FormFine s at e f → (g : Form) × Laid form_row FormFine s i m g
-  first_of_seq g a f e l = let (p, is, q) = two_seq g a f e l in (p.0, q.0)
-
-  pub first_of_or : {i : ℕ} → Tagged s at 3 i → Stands form_row FormFine s i m → (f : Form) (e : ℕ) → Laid form_row FormFine s at e f → (g : Form) × Laid form_row FormFine s i m g
-  first_of_or g a f e l = let (p, is, q) = two_or g a f e l in (p.0, q.0)
 
   pub fills_seq : {i x next : ℕ} {t₀ t₁ t₂ t₃ : List ℕ} → Tagged s at 2 i → Stands form_row FormFine s i m → Changed t₀ t₁ at (to i) → FormFills s i m t₁ t₂ (Some x) → (r : Option ℕ) → FormFills s m next t₂ t₃ r → FormFills s at next t₀ t₃ r
   fills_seq {i} {x} {next} {t₀} {t₁} {t₂} {t₃} g a c first None second = fills_none (λ f e l. let (p, is, q) = two_seq g a f e l in second.fills p.1 e q.1)

@@ -1,17 +1,16 @@
 -- From a whole row laid into the table to whether its view is clear, and to the automaton of one side.
-use Rattle.std.proofs.Common.{◌≡◌, ℕ, zero, suc, ◌+◌, ◌-◌, ◌*◌, ◌<◌, ◌≤◌, ◌&&◌, List, ◌++◌, length, get_or, Some, None, Option, sym, refl, ap, ◌∙◌, subst, append-nil, add-mul, one-mul, mul-one, mul-add, le-mul_of_pos_right, arith}
+use Rattle.std.proofs.Common.{◌≡◌, ℕ, ◌<◌, ◌&&◌, List, ◌++◌, length, get_or, Some, None, Option, sym, refl, ap, ◌∙◌, subst, append-nil, arith}
 use lib.Seq.{drop-length}
 use Rattle.lens.specs.Views.{View}
 use Rattle.rows.specs.Rows.{view_row, ViewFine, Encodes}
 use Rattle.automata.proofs.Acting.{acts_alike}
-use Rattle.pairs.specs.Room.{pair_words}
 use Rattle.pairs.proofs.Tables.{zeros_stop}
 use Rattle.clear.specs.declared.side.Side.{Side}
 use Rattle.clear.specs.declared.side.Side.TheVariants.{Source, Look}
 use Rattle.pairs.specs.declared.answer.Answer.{Answer}
 use Rattle.clear.specs.Sides.{side_form}
 use Rattle.clear.specs.Filled.{Finding, Laid, Filled, ViewFills}
-use Rattle.clear.specs.Verdict.{clear_words, Tells, TellsSide, Lays}
+use Rattle.clear.specs.Verdict.{Tells, TellsSide, Lays}
 use Rattle.clear.proofs.Asking.{decides_and, decides_as}
 use Rattle.clear.proofs.Lengths.{view_long}
 use Rattle.clear.proofs.Sides.{sides_sound, sides_complete}
@@ -48,13 +47,3 @@ pub tells_both : {s : List ℕ} {a b r : Answer} → r.yes ≡ a.yes && b.yes �
 tells_both {a = a} {b = b} same x y = record {
   tells = λ v e. rw same (decides_as (a.yes && b.yes) (λ p. sides_sound v p.0 p.1) (λ c. sides_complete v c) (decides_and a.yes b.yes (x.tells v e) (y.tells v e)));
 }
-
--- The words behind the table are enough for the search.
-square : (n : ℕ) → n ≤ n * n
-square zero = omega arith
-square (suc n) = le-mul_of_pos_right (suc n) (omega arith)
-
-pub room_enough : (n w : ℕ) → n ≤ 1024 → clear_words n ≤ w → 3 * pair_words (n + 1) ≤ w - 4 * n
-room_enough n w h h' =
-    let wide : (n + 1) * (n + 1) ≡ n * n + n + (n + 1) = simp (mul-add, add-mul, one-mul, mul-one) (omega arith) in
-    omega (arith, square n)

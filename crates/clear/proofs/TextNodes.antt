@@ -1,14 +1,14 @@
 -- Laying a literal text: each place reads the byte behind it, and the last one goes on.
-use Rattle.std.proofs.Common.{◌≡◌, ℕ, suc, ◌+◌, ◌-◌, ◌<◌, ◌≤◌, List, [], ◌∷◌, ◌++◌, length, get_or, drop, Some, None, sym, refl, ap, ◌∙◌, subst, add-zero, arith, get_or-drop, drop-drop}
+use Rattle.std.proofs.Common.{◌≡◌, ℕ, suc, ◌+◌, ◌-◌, ◌<◌, ◌≤◌, List, [], ◌∷◌, ◌++◌, length, get_or, drop, Some, sym, refl, ap, ◌∙◌, subst, add-zero, arith, get_or-drop, drop-drop}
 use native.Mathlib.Decide.{dec_lt}
 use Rattle.lens.specs.Forms.{Text, exactly}
 use Rattle.rows.specs.Rows.{text_row, TextFine}
-use Rattle.rows.specs.Stands.{Stands, Nowhere}
+use Rattle.rows.specs.Stands.{Stands}
 use Rattle.rows.proofs.Unique.{splits_text}
 use Rattle.automata.specs.Automaton.{Shape, to, leaf, Acts, a_pass, a_none, a_one, a_seq}
 use Rattle.pairs.specs.Table.{shape_at, Changed}
 use Rattle.clear.specs.Filled.{Within, TextFills}
-use Rattle.clear.proofs.Laying.{laid_somewhere, laid_length}
+use Rattle.clear.proofs.Laying.{laid_length}
 
 -- The places from `at` to k read the bytes behind them; the others are as in t₀.
 pub record Chained (s t₀ t : List ℕ) (at k : ℕ) : Type 0 where
@@ -54,6 +54,3 @@ fills_text {s} {at} {next} {x} {t₀} {t₁} {t₂} a chain c = record {
         },
       );
 }
-
-pub text_nowhere : {s : List ℕ} {at next : ℕ} {t t' : List ℕ} → Nowhere text_row TextFine s at → TextFills s at next t t' None
-text_nowhere n = record { fills = λ v e l. laid_somewhere l n }

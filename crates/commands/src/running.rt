@@ -1,5 +1,6 @@
 // How each program begins and ends: its arguments without its own name, and its result on standard output, or a refusal on
-// standard error, with which it ends in status 1.
+// standard error, with which it ends in status 1. Each main calls these two: a function that took the program's own function as
+// a parameter got no proof, since what that returns may hold a reference.
 use crate::refusals::Refusal;
 use std::env;
 use std::io::Write;

@@ -1,19 +1,19 @@
 -- What a reader of the marks goes by: what a part is, and from a part to its parts, also where it is empty.
-use Rattle.std.proofs.Common.{◌≡◌, ℕ, ◌+◌, ◌-◌, ◌≤◌, Bool, true, false, List, [], ◌∷◌, ◌++◌, length, take, drop, sym, refl, ap, ◌∙◌, subst, inl, inr, arith}
+use Rattle.std.proofs.Common.{◌≡◌, ℕ, ◌-◌, ◌≤◌, Bool, true, false, List, [], ◌∷◌, ◌++◌, length, take, drop, sym, refl, ap, ◌∙◌, subst, inl, inr, arith}
 use Rattle.std.proofs.lemmas.Bool.{cases_Bool, both_ways}
 use Rattle.std.proofs.lemmas.List.{take-append-le, take_all}
 use Rattle.lens.specs.Forms.{Text, Form, Matches}
 use Rattle.trees.specs.declared.nodes.Node.{Node}
-use Rattle.trees.specs.declared.nodes.Node.TheVariants.{Seq, Or, Many, Same, Byte}
+use Rattle.trees.specs.declared.nodes.Node.TheVariants.{Seq, Or, Many}
 use Rattle.trees.specs.declared.tree.Tree.{Tree}
 use Rattle.trees.specs.declared.scanned.Scanned.{Scanned}
 use Rattle.trees.specs.Nodes.{node_at}
 use Rattle.trees.specs.Tree.{Stack, Fits, Begins, At}
-use Rattle.trees.proofs.Begins.{fits_cons_complete, one_not_empty, seq_empty_complete, begins_seq_sound, begins_or_sound, begins_many_sound}
-use Rattle.marks.specs.Cut.{whole, inner, series, Cut, cut_none, cut_some, cut_byte, cut_seq, cut_left, cut_right, cut_many, cut_same, cut_stop, cut_more}
+use Rattle.trees.proofs.Begins.{fits_cons_complete, seq_empty_complete, begins_seq_sound, begins_or_sound, begins_many_sound}
+use Rattle.marks.specs.Cut.{whole, inner, series, Cut, cut_none, cut_some, cut_seq, cut_left, cut_right, cut_many, cut_stop, cut_more}
 use Rattle.trees.specs.Cells.{begun}
 use Rattle.marks.specs.Passes.{Here, Piece}
-use Rattle.marks.proofs.Sound.{Shape, shape_byte, shape_seq, shape_or, shape_many, shape_same, Found, begins_true, begins_false, sound}
+use Rattle.marks.proofs.Sound.{Shape, shape_seq, shape_or, shape_many, Found, begins_true, begins_false, sound}
 use Rattle.marks.proofs.Places.{stands_here}
 
 take_first : (n : ℕ) (u v : Text) → n ≡ length u → take n (u ++ v) ≡ u
@@ -77,19 +77,6 @@ module _ (scanned : Scanned) where
   by_node made P is (cut_none s) full none = none s
   by_node {M} made P is (cut_some {i = i} {e} s c m) full none = full (subst (λ made. Cut words S M (inner made) i e) (sym is) c)
 
-  pub byte_part : {M : ℕ → ℕ → Bool} {b x q i e : ℕ} → Here scanned q i → Byte b x ≡ node_at words q → Cut words S M (whole q) i e →
-      Cut words S M (whole x) (i + 1) e
-  byte_part {M} {b} {x} {q} {i} here is cut = by_node (Byte b x) (λ e. Cut words S M (whole x) (i + 1) e) is cut full none
-    where
-      full : {e : ℕ} → Cut words S M (inner (Byte b x)) i e → Cut words S M (whole x) (i + 1) e
-      full (cut_byte c) = c
-
-      never : {f : Form} {σ : Stack} → Shape words tree.root (Byte b x) f σ → Matches f [] → ⊥
-      never (shape_byte at) m = one_not_empty (seq_empty_complete m).0
-
-      none : S i q ≡ false → Cut words S M (whole x) (i + 1) i
-      none s = absurd (never (stands_here scanned here is) (empty_here here s).1)
-
   abbrev Both : (M : ℕ → ℕ → Bool) (x y i e : ℕ) → Type 0
   Both M x y i e = (m : ℕ) × Cut words S M (whole x) i m × Cut words S M (whole y) m e
 
@@ -145,16 +132,4 @@ module _ (scanned : Scanned) where
       empties (shape_many at) none = cut_stop (begun_false i at (λ b. none (begins_many_sound b)))
 
       none : S i q ≡ false → Cut words S M (series x) i i
-      none s = empties (stands_here scanned here is) (empty_here here s).0
-
-  pub same_part : {M : ℕ → ℕ → Bool} {x q i e : ℕ} → Here scanned q i → Same x ≡ node_at words q → Cut words S M (whole q) i e → Cut words S M (whole x) i e
-  same_part {M} {x} {q} {i} here is cut = by_node (Same x) (λ e. Cut words S M (whole x) i e) is cut full none
-    where
-      full : {e : ℕ} → Cut words S M (inner (Same x)) i e → Cut words S M (whole x) i e
-      full (cut_same c) = c
-
-      empties : {f : Form} {σ : Stack} → Shape words tree.root (Same x) f σ → (Begins f σ (drop i text) → ⊥) → Cut words S M (whole x) i i
-      empties (shape_same at) none = cut_none (begun_false i at none)
-
-      none : S i q ≡ false → Cut words S M (whole x) i i
       none s = empties (stands_here scanned here is) (empty_here here s).0

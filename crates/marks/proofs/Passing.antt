@@ -139,9 +139,6 @@ module _ (scanned : Scanned) where
     pub stays : Stays x (cell tree old) (cell tree new) i m
     pub goes_on : (M : ℕ → ℕ → Bool) (e : ℕ) → ((j p : ℕ) → j < m → M j p ≡ cell tree new j p) → Cut words S M (series x) m e → Cut words S M (series x) i e
 
-  pub run_none : {x i : ℕ} {marks : List ℕ} → Fresh (cell tree marks) i → Run x marks marks i i
-  run_none fresh = record { ordered = omega arith; stays = stays_none (omega arith) fresh; goes_on = λ M e same cut. cut }
-
   pub run_more : {x i m e : ℕ} {old mid new : List ℕ} → S m x ≡ true → Run x old mid i m → C (whole x) x mid new m e → Run x old new i e
   run_more {m = m} {e} {old = old} {mid} {new} s run cuts =
       let l = cut_ordered cuts.cut in

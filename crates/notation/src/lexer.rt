@@ -216,17 +216,18 @@ fn hex_digit(byte: u8) -> Option<u8>
 fn space_end(text: &[u8], at: usize) -> usize
     ensures { at ≤ result }
 {
+    let rest = text.get(at..).unwrap_or(b"");
     let mut comment = false;
-    for end in at..text.len() {
-        match text[end] {
+    for (count, byte) in rest.iter().enumerate() {
+        match byte {
             b'\n' => comment = false,
             b'#' => comment = true,
             b' ' | b'\t' | b'\r' => {}
             _ if comment => {}
-            _ => return end,
+            _ => return at + count,
         }
     }
-    text.len().max(at)
+    at + rest.len()
 }
 
 // Where the word ends that goes on at `at`.
@@ -235,12 +236,10 @@ fn word_end(text: &[u8], at: usize) -> usize
     ensures from { at ≤ result }
     ensures within { result ≤ length text.now }
 {
-    for end in at..text.len() {
-        if !is_word_byte(text[end]) {
-            return end;
-        }
-    }
-    text.len()
+    text[at..]
+        .iter()
+        .position(|byte| !is_word_byte(*byte))
+        .map_or(text.len(), |count| at + count)
 }
 
 fn is_letter(byte: u8) -> bool {

@@ -6,7 +6,7 @@ use Rattle.automata.specs.Automaton.{Shape, stop, to, fork, leaf, Targets}
 use Rattle.automata.specs.Coded.{coded_moves, Edge, Inner}
 use Rattle.automata.proofs.Coded.{ended_inner, edge_below}
 use Rattle.pairs.specs.Pairs.{stopped, past, Stays, numbered, listed}
-use Rattle.pairs.specs.Table.{shape_at, shape, Bounded}
+use Rattle.pairs.specs.Table.{shape_at, shape}
 use Rattle.pairs.specs.declared.table.Step.{Step}
 use Rattle.pairs.specs.declared.table.Step.TheVariants.{Stop, To, Fork, Leaf}
 use Rattle.reach.specs.Graphs.{Among, Leads}
@@ -15,20 +15,11 @@ use Rattle.reach.specs.declared.graph.Moves.TheVariants.{None, One, Two}
 
 -- Within the first n states
 
-past_complete : (n : ℕ) (s : Shape ℕ) → Targets (λ q. q < n) s → past s ≤ n
-past_complete n stop h = omega arith
-past_complete n (to q) h = omega arith
-past_complete n (fork q r) h = omega arith
-past_complete n (leaf a b q) h = omega arith
-
 past_sound : (n : ℕ) (s : Shape ℕ) → past s ≤ n → Targets (λ q. q < n) s
 past_sound n stop h = tt
 past_sound n (to q) h = omega arith
 past_sound n (fork q r) h = (omega arith, omega arith)
 past_sound n (leaf a b q) h = omega arith
-
-pub bounded_stays : {n : ℕ} {t : List ℕ} → Bounded n t → Stays n t
-bounded_stays {n} {t} b = λ p. past_complete n (shape_at t p) (b.inside p)
 
 pub stays_inner : (n : ℕ) (t : List ℕ) (e : ℕ) → Stays n t → Inner n (stopped t e)
 stays_inner n t e s = ended_inner n _ (shape_at t) (λ p _. past_sound n (shape_at t p) (s p))

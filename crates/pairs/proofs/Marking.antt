@@ -13,12 +13,6 @@ only_one {words = words} {new} {k} c p = record { here = p.here; others = others
     others j t = elim (cases_eq j k) [ inl e ↦ e | inr ne ↦ absurd (both_ways _ (c.none j) (sym (p.others j ne) ∙ t)) ]
 
 module _ (n : ℕ) (shape : ℕ → Shape ℕ) (m : ℕ) (seen : List ℕ) where
-  pub enters_none : {old new : List ℕ} → Clears old new → Enters n shape m seen 0 new
-  enters_none c = record {
-    sound = λ k t. absurd (both_ways _ (c.none k) t);
-    complete = λ q l. absurd (omega arith);
-  }
-
   pub enters_more : (i : ℕ) {old new : List ℕ} (reads : Bool) → Decides reads (Leaf (shape i)) → Enters n shape m seen i old →
       Puts old (coded n (m, i)) (bit seen (coded n (m, i)) && reads) new → Enters n shape m seen (i + 1) new
   enters_more i {old} {new} reads d e p = record { sound = sound; complete = complete }

@@ -1,6 +1,6 @@
 -- From a closed table of bits to the pairs that are reached from one pair: whether two runs meet.
 -- Not here: whether two runs cross (Crossing).
-use Rattle.std.proofs.Common.{◌≡◌, ℕ, ◌*◌, ◌<◌, Bool, true, eqb, List, Decides, arith}
+use Rattle.std.proofs.Common.{◌≡◌, ℕ, ◌*◌, ◌<◌, Bool, true, eqb, List, Decides}
 use lib.Arith.{digits_lt}
 use Rattle.automata.specs.Automaton.{Shape, Reached, Meets}
 use Rattle.automata.specs.Coded.{coded, Below, Edge, Inner}
@@ -8,16 +8,11 @@ use Rattle.automata.proofs.Coded.{move_below, coded_sound, coded_complete}
 use Rattle.bits.specs.Bits.{bit}
 use Rattle.pairs.specs.Marks.{Only}
 use Rattle.pairs.specs.Pairs.{stopped, Stays}
-use Rattle.pairs.specs.Room.{pair_words}
 use Rattle.pairs.specs.Table.{shape_at}
 use Rattle.pairs.proofs.Edges.{stays_inner}
 use Rattle.reach.specs.Closed.{Closed}
 use Rattle.reach.specs.Reach.{Reach, here, step}
 use Rattle.std.proofs.lemmas.Bool.Decides.{Decides-at}
-
--- The node of a pair has a bit among the words that are lent for the pairs.
-pub node_inside : {n p q k l words : ℕ} → p < n → q < n → k ≡ coded n (p, q) → words ≡ pair_words n → l ≡ words → k < 32 * l
-node_inside lp lq is enough long = omega (arith, digits_lt lp lq)
 
 module _ (n : ℕ) (shape : ℕ → Shape ℕ) (inner : Inner n shape) where
   pub reached_below : {s t : ℕ × ℕ} → Below n s → Reached shape s t → Below n t

@@ -14,9 +14,6 @@ past_stops t p h = rw (get_or_past t (4 * p) 0 h)
 pub zeros_stop : (t : List ℕ) → ((i : ℕ) → i < length t → get_or t i 0 ≡ 0) → (p : ℕ) → shape_at t p ≡ stop
 zeros_stop t zeros p = elim (cases_lt (4 * p) (length t)) [ inl l ↦ rw (zeros (4 * p) l) | inr h ↦ past_stops t p h ]
 
-pub bounded_zeros : (n : ℕ) (t : List ℕ) → ((i : ℕ) → i < length t → get_or t i 0 ≡ 0) → Bounded n t
-bounded_zeros n t zeros = record { inside = λ p. subst (Inside n) (sym (zeros_stop t zeros p)) tt }
-
 -- Changes
 
 pub bounded_changed : {n p : ℕ} {t t' : List ℕ} {s : Shape ℕ} → Changed t t' p s → Inside n s → Bounded n t → Bounded n t'

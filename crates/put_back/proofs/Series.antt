@@ -21,9 +21,6 @@ puts_at {v} {u} {u'} {s} {s'} {x} a b c p = subst (λ x. Puts v u' s' x) c (subs
 
 -- No part yet; one part, put back or made; one more part; no more parts
 
-putting_none : {l : View} {Used : Type 0} {P : Text → Type 0} → P [] → Putting l [] [] Used P
-putting_none given = record { out = []; took = given; goes = λ v t y c p. p }
-
 putting_both : {l : View} {u s : Text} {Used : Type 0} {P : Text → Type 0} → GivesSome (Puts l u s) P → Putting l u s Used P
 putting_both {u = u} {s} g = record { out = g.out; took = g.took; goes = λ v t y c p. p_both u v s t g.out y g.holds p }
 
@@ -98,9 +95,6 @@ module _ {row : List ℕ} {source look : CutText} (pair : Pair source look) wher
 abbrev pub PutUntil : CutText → CutText → View → Span → Span → ℕ → ℕ → (Text → Type 0) → Type 0
 PutUntil source look l old new from to =
     Putting l (slice look.scanned.text.now new.at to) (slice source.scanned.text.now old.at from) (old.end ≤ from)
-
-pub all_none : (source look : CutText) (l : View) (old new : Span) {P : Text → Type 0} → P [] → PutUntil source look l old new old.at new.at P
-all_none source look l old new given = putting_at (slice_none look.scanned.text.now new.at) (slice_none source.scanned.text.now old.at) (putting_none given)
 
 module _ {row : List ℕ} {source look : CutText} (pair : Pair source look) {place : ℕ} (old new : Span) {l : View} where
   pub all_more : {from to n r : ℕ} {P Q R : Text → Type 0} → old.at ≤ from → new.at ≤ to → to ≤ n → PutUntil source look l old new from to P →

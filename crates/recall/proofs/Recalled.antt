@@ -17,7 +17,7 @@ use Rattle.trees.proofs.Tables.{row_within}
 use Rattle.recall.specs.declared.memory.Memory.{Memory}
 use Rattle.recall.specs.Slots.{width, slot_bit, Keeps, Copies, SameSlots}
 use Rattle.recall.specs.Recalls.{Leads, Recalls}
-use Rattle.recall.specs.Memory.{Known, KnownBehind, MadeStep, IsSameRoom, Takes, Notes}
+use Rattle.recall.specs.Memory.{KnownBehind, MadeStep, IsSameRoom, Takes, Notes}
 
 -- What a memory keeps as a fact of its own, with its proof.
 pub recalls_of : (memory : Memory) → Recalls memory.tree memory.rows.now memory.next.now memory.used
@@ -184,13 +184,3 @@ module _ {old kept placed : Memory} {bits : List ℕ} {row to : ℕ} (room : IsS
       (subst (λ rows. Leads old.tree rows k spot.byte to) (sym rows)
       (leads_kept old.tree keeps (made.there k is) there
       (λ c t starts. subst (λ row. Starts old.tree (row_at bits row) 0 (spot.byte ∷ (c ∷ t))) (sym begin) (made.leads k is c t starts))))
-
-  pub placed_known : {after : Memory} → IsSameRoom placed after → after.rows.now ≡ placed.rows.now → to < after.used → Known after bits row (Some to)
-  placed_known {after} room'' rows' inside = record {
-    there = λ k e. let is : k ≡ to = cc in omega arith;
-    same = λ k e q l.
-        let is : k ≡ to = cc in
-        let size : after.tree.size ≡ old.tree.size = ap (λ t. t.size) (room''.tree ∙ room'.tree ∙ room.tree) in
-        sym (ap (λ k. slot_bit after.tree.size after.rows.now k q) is ∙ ap (λ rows. slot_bit after.tree.size rows to q) (rows' ∙ rows)
-        ∙ ap (λ n. slot_bit n kept.rows.now to q) size ∙ kept_row old.tree keeps there q (omega arith));
-  }

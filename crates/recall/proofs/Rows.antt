@@ -1,13 +1,13 @@
 -- Rows in slots, after copying.
-use Rattle.std.proofs.Common.{◌≡◌, ℕ, ◌+◌, ◌-◌, ◌*◌, ◌/◌, ◌%◌, ◌^◌, ◌<◌, ◌≤◌, Bool, eqb, List, length, get_or, take, drop, sym, refl, ap, ◌∙◌, subst, inl, inr, le_refl, length-take-le, arith}
+use Rattle.std.proofs.Common.{◌≡◌, ℕ, ◌+◌, ◌-◌, ◌*◌, ◌/◌, ◌%◌, ◌^◌, ◌<◌, ◌≤◌, eqb, List, length, get_or, take, drop, sym, ap, ◌∙◌, subst, inl, inr, le_refl, length-take-le, arith}
 use Rattle.std.proofs.lemmas.Grind.{elements}
 use Rattle.std.proofs.lemmas.List.{get_or-take, get_or-drop}
 use Rattle.std.proofs.lemmas.Nat.{mul-le}
-use Rattle.std.proofs.lemmas.Bool.{cases_eq, cases_lt}
-use Rattle.bits.specs.Bits.{bit, Puts, PutsBits}
+use Rattle.std.proofs.lemmas.Bool.{cases_lt}
+use Rattle.bits.specs.Bits.{bit, PutsBits}
 use Rattle.bits.proofs.Fields.{digit_mod}
 use Rattle.trees.proofs.Tables.{row_within}
-use Rattle.recall.specs.Slots.{width, slot_bit, Keeps, Copies, SameSlots, Finds}
+use Rattle.recall.specs.Slots.{width, slot_bit, Copies, SameSlots, Finds}
 
 -- A bit of a slot, by its word.
 slot_digit : (n : ℕ) (rows : List ℕ) (k w j : ℕ) → j < 32 → slot_bit n rows k (32 * w + j) ≡ eqb (get_or rows (k * width n + w) 0 / 2 ^ j % 2) 1
@@ -20,24 +20,6 @@ slot_digit n rows k w j l =
 -- A word of a part of the rows, from f up to e.
 pub part_word : (rows : List ℕ) (f e w : ℕ) → f + w < e → get_or (take (e - f) (drop f rows)) w 0 ≡ get_or rows (f + w) 0
 part_word rows f e w l = get_or-take (e - f) (drop f rows) w 0 (omega arith) ∙ get_or-drop f rows w 0
-
--- Kept bit by bit
-pub keeps_none : (n : ℕ) (bits : List ℕ) (row : ℕ) (rows : List ℕ) (k : ℕ) → Keeps n bits row rows rows k 0
-keeps_none n bits row rows k = record { here = λ q l. absurd (omega arith); before = λ j l. refl }
-
-pub keeps_more : {n : ℕ} {bits : List ℕ} {row : ℕ} {old mid new : List ℕ} {k m : ℕ} {value : Bool} → value ≡ bit bits (row + m) →
-    Keeps n bits row old mid k m → Puts mid (32 * (k * width n) + m) value new → Keeps n bits row old new k (m + 1)
-keeps_more {n} {bits} {row} {old} {mid} {new} {k} {m} is keeps puts = record {
-  here = λ q l. elim (cases_eq q m) [
-    | inl same ↦ ap (λ q. slot_bit n new k q) same ∙ puts.here ∙ is ∙ ap (λ q. bit bits (row + q)) (sym same)
-    | inr other ↦ puts.others (32 * (k * width n) + q) (λ e. other (omega arith)) ∙ keeps.here q (omega (arith, other))
-  ];
-  before = λ j l. puts.others j (omega arith) ∙ keeps.before j l;
-}
-
--- Copied word by word
-pub copies_none : (n : ℕ) (rows : List ℕ) (k : ℕ) (bits : List ℕ) (row : ℕ) → Copies n rows k bits bits row 0
-copies_none n rows k bits row = record { here = λ q l. absurd (omega arith); behind = λ j l. refl }
 
 copies_more : {n : ℕ} {rows : List ℕ} {k : ℕ} {old mid new : List ℕ} {row len value : ℕ} (w : ℕ) → len ≤ 32 → 32 * w + len ≤ n →
     ((j : ℕ) → j < len → value / 2 ^ j % 2 ≡ get_or rows (k * width n + w) 0 / 2 ^ j % 2) →

@@ -1,19 +1,15 @@
 -- What the bytes at one place of a row say: which node stands there, or that nothing begins there.
-use Rattle.std.proofs.Common.{◌≡◌, ℕ, suc, ◌+◌, ◌<◌, ◌≤◌, ◌⊎◌, List, [], ◌∷◌, ◌++◌, length, get_or, take, drop, sym, refl, ap, ◌∙◌, subst, ap₂, add_assoc, arith, length-append, length-drop, take-append-drop, length-take-le, get_or-drop, get_or-take, drop-drop}
+use Rattle.std.proofs.Common.{◌≡◌, ℕ, suc, ◌+◌, ◌<◌, ◌≤◌, ◌⊎◌, List, [], ◌∷◌, ◌++◌, length, get_or, take, drop, sym, refl, ap, ◌∙◌, subst, ap₂, add_assoc, arith, length-drop, take-append-drop, length-take-le, get_or-drop, get_or-take, drop-drop}
 use Rattle.std.proofs.lemmas.List.{drop_more, drop_all}
 use Rattle.lens.specs.Forms.{Text, Form}
 use Rattle.lens.specs.Views.{View}
 use Rattle.rows.specs.Rows.{form_row, view_row, text_row, FormFine, ViewFine, TextFine, AllBytes}
 use Rattle.rows.specs.Stands.{Stands, Nowhere, Heads}
-use Rattle.rows.specs.Nodes.{Tagged}
 use Rattle.rows.proofs.Tags.{undo_one, form_tag, view_tag}
 
 -- The tag at a place
 pub heads_tag : (s : List ℕ) (at t : ℕ) → at < length s → get_or s at 0 ≡ t → Heads s at (t ∷ [])
 heads_tag s at t h e = record { laid = drop_more s at 0 h ∙ ap (λ x. x ∷ drop (at + 1) s) e; within = omega arith }
-
-pub tagged_at : (s : List ℕ) (at t : ℕ) → at < length s → get_or s at 0 ≡ t → Tagged s at t (at + 1)
-tagged_at s at t h e = record { heads = heads_tag s at t h e; behind = refl }
 
 -- Nothing begins behind the end.
 module _ {A : Type 0} (row : A → List ℕ) (fine : A → Type 0) (some : (x : A) (r : List ℕ) → [] ≡ row x ++ r → ⊥) where
@@ -91,12 +87,3 @@ module _ (s : List ℕ) (at : ℕ) (h : at < length s) where
         within = fits;
         laid = (heads_tag s at n h refl).laid ∙ ap₂ ◌∷◌ (sym long) (sym (take-append-drop n (drop (at + 1) s)) ∙ ap (λ r. v ++ r) (drop-drop n (at + 1) s));
       }
-
-  pub nowhere_cut : length s < at + 1 + get_or s at 0 → Nowhere text_row TextFine s at
-  nowhere_cut short = record {
-    never = λ v r f e.
-        let same : get_or s at 0 ∷ drop (at + 1) s ≡ length v ∷ (v ++ r) = sym (heads_tag s at _ h refl).laid ∙ e in
-        let n : get_or s at 0 ≡ length v = cc in
-        let rest : drop (at + 1) s ≡ v ++ r = cc in
-        omega (arith, ap length rest, length-drop (at + 1) s, length-append v r);
-  }

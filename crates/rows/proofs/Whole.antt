@@ -1,6 +1,5 @@
 -- When the bytes as a whole are a view's row.
-use Rattle.std.proofs.Common.{◌≡◌, ℕ, ◌≤◌, ◌≢◌, List, [], ◌++◌, length, drop, Some, None, Option, sym, ap, ◌∙◌, append-nil, arith, length-drop}
-use Rattle.std.proofs.lemmas.List.{drop_all}
+use Rattle.std.proofs.Common.{ℕ, ◌≢◌, List, [], length, drop, Some, None, Option, sym, ap, ◌∙◌, append-nil, arith, length-drop}
 use Rattle.lens.specs.Views.{View}
 use Rattle.rows.specs.Rows.{view_row, ViewFine, Encodes}
 use Rattle.rows.specs.Stands.{Stands, Nowhere}
@@ -15,11 +14,6 @@ module _ {s : List ℕ} where
 
   -- A view stands at the front, and it is all there is exactly if it ends with the row.
   module _ {e : ℕ} (a : Stands view_row ViewFine s 0 e) where
-    pub whole_some : length s ≤ 1024 → e ≡ length s → (v : View) × Encodes s v
-    whole_some short ends =
-        let rest : drop e s ≡ [] = drop_all e s (omega (arith, ends)) in
-        (a.thing, record { row = sym (append-nil (view_row a.thing)) ∙ ap (λ r. view_row a.thing ++ r) (sym rest) ∙ sym a.laid; fine = a.sound; short = short })
-
     pub whole_more : e ≢ length s → (v : View) → Encodes s v → ⊥
     whole_more more v b =
         let same = (splits_view a.thing).only v (drop e s) [] (sym a.laid ∙ sym b.row ∙ sym (append-nil (view_row v))) in

@@ -1,10 +1,9 @@
 -- What the states of a set, one after the other, go on at.
-use Rattle.std.proofs.Common.{◌≡◌, ℕ, ◌+◌, ◌<◌, ◌≤◌, Bool, true, false, ◌||◌, List, [], Decides, sym, refl, ◌∙◌, subst, inl, inr, arith, below_more}
-use Rattle.std.proofs.lemmas.Bool.{cases_eq, cases_lt, both_ways, or_cases, or_left, or_right}
+use Rattle.std.proofs.Common.{◌≡◌, ℕ, ◌+◌, ◌<◌, ◌≤◌, Bool, true, ◌||◌, List, [], Decides, subst, inl, inr, arith, below_more}
+use Rattle.std.proofs.lemmas.Bool.{cases_eq, cases_lt, or_cases, or_left, or_right}
 use Rattle.std.proofs.lemmas.Bool.Decides.{Decides-at}
-use Rattle.bits.specs.Bits.{bit, Puts, Clears, IsLeft}
+use Rattle.bits.specs.Bits.{bit, Puts, IsLeft}
 use Rattle.bits.proofs.Tables.{bit_none}
-use Rattle.automata.specs.Automaton.{leaf}
 use Rattle.automata.proofs.Runs.{Reads}
 use Rattle.pairs.specs.Table.{shape_at}
 use Rattle.viable.specs.States.{GoesOn, MarksOn, Advanced, Expects}
@@ -14,13 +13,6 @@ use Rattle.viable.specs.States.{GoesOn, MarksOn, Advanced, Expects}
 module _ (t : List ℕ) (set : List ℕ) (x : ℕ) where
   goes_later : {k r q : ℕ} → k ≤ r → GoesOn t k set x q → GoesOn t r set x q
   goes_later l g = record { from = g.from; below = omega (arith, g.below); marked = g.marked; reads = g.reads }
-
-  pub advanced_none : {old new : List ℕ} → Clears old new → Advanced t 0 set x new false
-  advanced_none c = record {
-    sound = λ q b. absurd (both_ways _ (c.none q) b);
-    complete = λ q g. absurd (omega (arith, g.below));
-    any = (λ e. absurd (both_ways false refl e), λ (q, g). absurd (omega (arith, g.below)));
-  }
 
   -- no state of the set from k up to r
   pub advanced_on : {k r : ℕ} {new : List ℕ} {some : Bool} → k ≤ r → ((j : ℕ) → k ≤ j → j < r → IsLeft set [] j → ⊥) → Advanced t k set x new some → Advanced t r set x new some
@@ -65,18 +57,6 @@ module _ (t : List ℕ) (set : List ℕ) (x : ℕ) where
 
       finds : (q : ℕ) × GoesOn t (k + 1) set x q → (some || more) ≡ true
       finds (q, g) = cases ((some || more) ≡ true) q g (λ o. or_left some more (a.any.1 (q, o))) (λ r. or_right some more (m.any.1 (q, r)))
-
--- A state that reads the byte goes on
-pub marks_read : {t old new : List ℕ} {p x q : ℕ} (a b : ℕ) → leaf a b q ≡ shape_at t p → a ≤ x → x ≤ b → Puts old q true new → MarksOn t p x old new true
-marks_read {t} {old} {new} {p} {x} {q} a b is low high puts = record {
-  sound = λ r m. elim (cases_eq r q) [ inl e ↦ inr (reads r e) | inr ne ↦ inl (sym (puts.others r ne) ∙ m) ];
-  keeps = λ r m. elim (cases_eq r q) [ inl e ↦ rw e puts.here | inr ne ↦ puts.others r ne ∙ m ];
-  complete = λ r m. let n : Reads (leaf a b q) x r = rw (sym is) at m in rw n.2 puts.here;
-  any = (λ _. (q, reads q refl), λ _. refl);
-}
-  where
-    reads : (r : ℕ) → r ≡ q → Reads (shape_at t p) x r
-    reads r e = subst (λ s. Reads s x r) is (low, high, e)
 
 -- The bytes that the set goes on with, one after the other
 pub expects_more : {t set bytes new mid : List ℕ} {n m : ℕ} {some : Bool} → Expects t n set m bytes → Advanced t n set m mid some →

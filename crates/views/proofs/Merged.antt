@@ -5,8 +5,8 @@ use Rattle.lens.specs.Views.{View, looks, Puts}
 use Rattle.clear.specs.declared.side.Side.TheVariants.{Source, Look}
 use Rattle.rows.specs.Rows.{Encodes}
 use Rattle.walk.specs.declared.cut_text.CutText.{CutText}
-use Rattle.walk.specs.Delivers.{Delivered, Overflows}
-use Rattle.put_back.specs.Whole.{CutBoth, PutWhole}
+use Rattle.walk.specs.Delivers.{Delivered}
+use Rattle.put_back.specs.Whole.{PutWhole}
 use Rattle.views.specs.declared.made.Refused.{Refused}
 use Rattle.views.specs.declared.made.Refused.TheVariants.{Muddy, NoSuch, NoSource, NoLook, Full, Small}
 use Rattle.views.specs.Room.{room}
@@ -38,25 +38,11 @@ module _ {s : List ℕ} {a b : Text} (c : ClearRow s) {source : CutText} (old : 
   }
 
   module _ {look : CutText} (new : CutBy Look s b look) where
-    pub put_cut : CutBoth s source look
-    put_cut = record {
-      view = c.view;
-      clear = c.clear;
-      in_source = old.walk c.view c.encodes;
-      in_look = new.walk c.view c.encodes;
-    }
-
     -- The text that was delivered is what comes of the look and the source.
     puts : {x : Text} → PutWhole s source look x → Puts c.view b a x
     puts {x} p =
         subst (λ b. Puts c.view b a x) new.text_is
         (subst (λ a. Puts c.view look.scanned.text.now a x) old.text_is (p.puts c.view (old.walk c.view c.encodes)))
-
-    pub put_full : {o o' : List ℕ} → Overflows (PutWhole s source look) o o' → PutClearedPost s a b o o' (Err Full)
-    put_full h = record {
-      says = (c.view, h.text, c.encodes, c.clear, puts h.holds, h.longer, h.kept);
-      large = λ e. cc;
-    }
 
     pub put_done : {o o' : List ℕ} {n : ℕ} → Delivered (PutWhole s source look) o o' n → PutClearedPost s a b o o' (Ok n)
     put_done h = record {

@@ -7,8 +7,8 @@ use Rattle.clear.specs.declared.side.Side.TheVariants.{Source, Look}
 use Rattle.clear.specs.Sides.{side_form}
 use Rattle.walk.specs.declared.cut_text.CutText.{CutText}
 use Rattle.walk.specs.Turns.{Turns}
-use Rattle.walk.specs.Turned.{CutWhole, TurnedWhole, on_shown, on_made}
-use Rattle.walk.specs.Delivers.{Delivered, Overflows}
+use Rattle.walk.specs.Turned.{TurnedWhole, on_shown, on_made}
+use Rattle.walk.specs.Delivers.{Delivered}
 use Rattle.walk.proofs.Descending.{walk_piece}
 use Rattle.views.specs.declared.made.Refused.TheVariants.{Muddy, NoSuch, NoSource, NoLook, Full, Small}
 use Rattle.views.specs.Cut.{ClearRow, CutBy}
@@ -22,17 +22,10 @@ module _ {side : Side} {s : List ℕ} {text : Text} (c : ClearRow s) {cut : CutT
       let whole = subst (Matches (side_form cut.side c.view)) (take_all (length cut.scanned.text.now - 0) cut.scanned.text.now (omega arith)) all in
       subst (λ side. Matches (side_form side c.view) text) by.side_is (subst (Matches (side_form cut.side c.view)) by.text_is whole)
 
-  -- It is cut by a clear view.
-  pub turned_cut : CutWhole s cut
-  turned_cut = record { view = c.view; clear = c.clear; walk = by.walk c.view c.encodes }
-
   turns : {u : Text} → TurnedWhole s cut u → Turns side c.view text u
   turns {u} t =
       subst (λ side. Turns side c.view text u) by.side_is
       (subst (λ a. Turns cut.side c.view a u) by.text_is (t.turns c.view (by.walk c.view c.encodes)))
-
-  pub turned_full : {o o' : List ℕ} → Overflows (TurnedWhole s cut) o o' → ClearedPost side s text o o' (Err Full)
-  turned_full h = record { says = (c.view, h.text, c.encodes, c.clear, turns h.holds, h.longer, h.kept); large = λ e. cc }
 
   pub turned_done : {o o' : List ℕ} {n : ℕ} → Delivered (TurnedWhole s cut) o o' n → ClearedPost side s text o o' (Ok n)
   turned_done h = record {

@@ -1,5 +1,5 @@
 -- Which side of an either the cut took, by what begins and by the empty text.
-use Rattle.std.proofs.Common.{◌≡◌, ℕ, Bool, true, false, [], Decides, sym, refl, ◌∙◌, inl, inr, zero-le}
+use Rattle.std.proofs.Common.{◌≡◌, ℕ, Bool, false, [], Decides, sym, ◌∙◌, inr, zero-le}
 use borrow.Author.Tests.{clash}
 use Rattle.std.proofs.lemmas.Bool.{both_ways}
 use Rattle.lens.specs.Forms.{Form, Matches}
@@ -17,18 +17,6 @@ null_tells : (tree : Tree) {q : ℕ} {f : Form} {σ : Stack} → At tree.words.n
 null_tells tree {q} {f} at = (ready_of tree.ready).nulls.tells q f zero-le (stands_within tree at).1 (at_grows at)
 
 module _ {scanned : Scanned} {x y i : ℕ} where
-  pub chooses_begun : BeginsAt scanned.tree scanned.text.now i x true → Chooses scanned x y i true
-  chooses_begun b = record {
-    left = λ e f g σ at at'. inl ((b.tells f σ at).0 refl);
-    right = λ e. absurd (clash (sym e));
-  }
-
-  pub chooses_other : BeginsAt scanned.tree scanned.text.now i x false → BeginsAt scanned.tree scanned.text.now i y true → Chooses scanned x y i false
-  chooses_other b b' = record {
-    left = λ e. absurd (clash e);
-    right = λ e f g σ at at'. (λ begin. clash ((b.tells f σ at).1 begin), inl ((b'.tells g σ at').0 refl));
-  }
-
   -- None begins.
   pub chooses_null : BeginsAt scanned.tree scanned.text.now i x false → BeginsAt scanned.tree scanned.text.now i y false → (r : Bool) → r ≡ bit scanned.tree.null.now x → Chooses scanned x y i r
   chooses_null b b' r is = record {

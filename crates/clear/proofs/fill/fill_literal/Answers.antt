@@ -1,13 +1,6 @@
 use Rattle.std.proofs.Common.{refl}
-use Rattle.clear.proofs.ViewNodes.{finds_literal, literal_nowhere, no_form, no_shown, no_fresh}
+use Rattle.clear.proofs.ViewNodes.{finds_literal, literal_nowhere, no_shown, no_fresh}
 use Rattle.clear.proofs.fill.fill_literal.Goals as goal
-
-pub returns-in_err-shown : goal.returns-in_err-shown
-returns-in_err-shown c =
-    record {
-      fills = rw c.from_residual.ensures (literal_nowhere (no_form c.in_err-shown.ensures));
-      bounded = c.requires.ready.bounded;
-    }
 
 pub returns-in_err-fresh : goal.returns-in_err-fresh
 returns-in_err-fresh c =

@@ -3,11 +3,8 @@ use Rattle.std.proofs.lemmas.Iterator.{YieldsList-from_range, first_from_find}
 use borrow.Author.Tests.{tests}
 use Rattle.trees.specs.Cells.{cell}
 use Rattle.marks.proofs.Places.{before_end}
-use Rattle.marks.proofs.Ends.{part_empty, part_found}
+use Rattle.marks.proofs.Ends.{part_found}
 use Rattle.marks.proofs.pass.end_of.Goals as goal
-
-pub returns-then-not-begins_at : goal.returns-then-not-begins_at
-returns-then-not-begins_at c = λ e part. part_empty part (sym c.if-not-begins_at.ensures.begun)
 
 pub returns : goal.returns
 returns c = λ e part.

@@ -1,10 +1,5 @@
-use Rattle.std.proofs.Common.{arith}
-use lib.Arith.{digits_lt}
 use Rattle.pairs.proofs.Marking.{enters_turn}
 use Rattle.pairs.proofs.search.enter.Goals as goal
-
-pub put-requires : goal.put-requires
-put-requires c = record { inside = omega (arith, c.node-node.ensures, digits_lt c.requires.middle_inside c.loop-state-test.true) }
 
 pub loop-state-preserved : goal.loop-state-preserved
 loop-state-preserved c =

@@ -25,9 +25,6 @@ pub form_end-returns-in-Many : goal.form_end-returns-in-Many
 form_end-returns-in-Many t c = ends_tagged builds_many (rw c.in-Many.is at c.in_ok-form_node.ensures) _ c.part_end.ensures
 
 -- Pairs
-pub pair_end-returns-in_err-second : goal.pair_end-returns-in_err-second
-pair_end-returns-in_err-second t c = let k = c.args.kind in rw c.from_residual.ensures (nowhere_first (part_row k) (PartFine k) (part_row k) (PartFine k) c.in_err-second.ensures)
-
 pub pair_end-returns : goal.pair_end-returns
 pair_end-returns t c = let k = c.args.kind in ends_both (part_row k) (PartFine k) (part_row k) (PartFine k) (splits_part k) c.in_ok-second.ensures _ c.part_end-2.ensures
 

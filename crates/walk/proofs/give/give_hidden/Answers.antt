@@ -1,10 +1,7 @@
 use Rattle.clear.proofs.Laying.{laid_somewhere}
-use Rattle.clear.proofs.ViewNodes.{no_form, no_shown}
+use Rattle.clear.proofs.ViewNodes.{no_shown}
 use Rattle.walk.proofs.Texts.{hidden_texts}
 use Rattle.walk.proofs.give.give_hidden.Goals as goal
-
-pub returns-in_default : goal.returns-in_default
-returns-in_default g c = λ p e l. absurd (laid_somewhere l (no_form c.in_default.ensures))
 
 pub returns-in_default-part_end : goal.returns-in_default-part_end
 returns-in_default-part_end g c = λ p e l. absurd (laid_somewhere l (no_shown c.in-Some.ensures c.in_default-part_end.ensures))

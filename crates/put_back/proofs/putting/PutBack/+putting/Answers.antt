@@ -1,9 +1,9 @@
-use Rattle.std.proofs.Common.{◌≡◌, ◌+◌, ◌-◌, ◌*◌, ◌<◌, length, le_refl, arith}
+use Rattle.std.proofs.Common.{◌≡◌, ◌+◌, ◌-◌, ◌*◌, ◌<◌, length, arith}
 use Rattle.walk.proofs.Descending.{first_walks}
 use Rattle.put_back.proofs.Descending.{falls, source_piece, look_piece}
 use Rattle.put_back.proofs.Joining.{copy_puts, hide_puts, then_puts, swap_puts, left_puts, right_puts, to_left_puts, to_right_puts, each_puts}
 use Rattle.put_back.proofs.Going.{walks_inside, go_first, go_second, go_swapped_first, go_swapped_second, go_left, go_right, go_to_left, go_to_right, go_parts, go_next, go_part}
-use Rattle.put_back.proofs.Series.{next_made, next_put, all_none, all_more, all_done}
+use Rattle.put_back.proofs.Series.{next_made, next_put, all_more, all_done}
 use Rattle.put_back.proofs.putting.PutBack.+putting.Goals as goal
 
 -- Views without views in them
@@ -115,9 +115,6 @@ put_part-put_each-requires g t c κs within =
 
 pub put_part-returns-in-Each : goal.put_part-returns-in-Each
 put_part-returns-in-Each g t c = λ v w. each_puts c.args.self.now.pair (rw c.in-Each.is at c.in-Some.ensures) c.put_each.ensures w
-
-pub put_each-parts-init : goal.put_each-parts-init
-put_each-parts-init g t c = λ v s. (s.in_source, s.in_look, le_refl _, le_refl _, all_none c.args.self.now.source c.args.self.now.look v c.args.old c.args.new (g.S.Sink.none _))
 
 pub put_each-put_next-from-requires : goal.put_each-put_next-from-requires
 put_each-put_next-from-requires g t c κs within =

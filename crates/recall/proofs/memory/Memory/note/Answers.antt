@@ -11,8 +11,3 @@ invariant_of-self c =
       room = record { free = room.free; rows_long = room.rows_long; next_long = rw length-set room.next_long; few = room.few };
       recalls = merely (recalls_noted (notes_set (omega (arith, room.next_long, room.free)) (omega arith)) c.requires.there c.requires.leads (recalls_of c.args.self.now));
     }
-
-pub returns-clause-notes : goal.returns-clause-notes
-returns-clause-notes c =
-    let room = c.args.self.now.room in
-    notes_set (omega (arith, room.next_long, room.free)) (omega arith)

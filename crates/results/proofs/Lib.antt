@@ -1,2 +1,0 @@
--- What the answers of the calls leave.
-mod Finished

@@ -2,7 +2,6 @@
 // are the moves of two runs side by side.
 // A state is a word of the table or a place that a caller counts, so each contract says its bound, and no type does.
 ghost use Rattle.std.specs.Prelude.{◌≡◌, ℕ, ◌+◌, ◌*◌, ◌^◌, ◌<◌, ◌≤◌};
-ghost use Rattle.std.proofs.Common.{rules};
 ghost use Rattle.automata.specs.Automaton.{stop};
 ghost use Rattle.automata.specs.Coded.{coded, Edge};
 ghost use Rattle.pairs.specs.Pairs.{stopped, numbered, listed};
@@ -24,8 +23,6 @@ impl<'a> Graph for Pairs<'a> {
     ghost edge = { λ g. Edge g.automaton.states (stopped g.automaton.table.now g.«end») };
 
     ghost nodes = { λ g. g.automaton.states * g.automaton.states };
-
-    ghost few = { λ g. Prim.search rules };
 
     fn size(&self) -> usize {
         self.automaton.states * self.automaton.states

@@ -1,11 +1,12 @@
 -- What the parts of the search promise: they look for a node to visit, mark where it leads, and visit one node after another.
 -- Two tables of bits hold the state. `seen` has the nodes that were met, and `done` those of them that were visited.
-use Rattle.std.specs.Prelude.{◌≡◌, ℕ, ◌+◌, ◌*◌, ◌<◌, ◌≤◌, true, ◌⊎◌, Option, Some, None, List, length}
+use Rattle.std.specs.Prelude.{◌≡◌, ℕ, ◌+◌, ◌*◌, ◌^◌, ◌<◌, ◌≤◌, true, ◌⊎◌, Option, Some, None, List, length}
 use Rattle.bits.specs.Bits.{bit, IsLeft}
 use Rattle.reach.specs.Closed.{misses, Reached}
 
--- There is a bit for each of n nodes in both tables.
+-- There is a bit for each of n nodes in both tables, and the number of a node fits a word.
 pub record HasRoom (n : ℕ) (seen done : List ℕ) : Type 0 where
+  pub small : n < 2 ^ 32
   pub seen_room : n ≤ 32 * length seen
   pub done_room : n ≤ 32 * length done
 

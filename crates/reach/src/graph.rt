@@ -1,5 +1,5 @@
 // What the search asks of a graph: how many nodes it has, and where the edges out of a node lead.
-ghost use Rattle.std.specs.Prelude.{◌≡◌, ℕ, ◌^◌, ◌<◌};
+ghost use Rattle.std.specs.Prelude.{◌≡◌, ℕ, ◌<◌};
 ghost use Rattle.reach.specs.Graphs.{Leads};
 
 // The nodes that the edges out of a node lead to, two at most.
@@ -24,7 +24,4 @@ pub trait Graph {
     fn moves(&self, node: usize) -> Moves
         requires { node < nodes self.now }
         ensures { Leads (edge self.now node) (nodes self.now) result };
-
-    // The number of a node fits a word.
-    ghost few: { (g : Self) → nodes g < 2 ^ 32 };
 }

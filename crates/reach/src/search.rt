@@ -14,6 +14,7 @@ use crate::hints::Hints;
 pub fn close<G: Graph>(g: &G, seen: &mut [u32], done: &mut [u32], hints: &mut [u32]) -> usize
     requires seen_room { G.nodes g.now ≤ 32 * length seen.old }
     requires done_room { G.nodes g.now ≤ 32 * length done.old }
+    requires small { G.nodes g.now < 2 ^ 32 }
     ensures { Closed (G.edge g.now) (G.nodes g.now) seen.old seen.new result }
 {
     bits::clear(done);
@@ -60,6 +61,7 @@ fn visit<G: Graph>(g: &G, seen: &mut [u32], done: &mut [u32], hints: &mut Hints<
 // Marks the nodes that the edges out of `node` lead to.
 fn expand<G: Graph>(g: &G, seen: &mut [u32], hints: &mut Hints<'_>, node: usize)
     requires seen_room { G.nodes g.now ≤ 32 * length seen.old }
+    requires small { G.nodes g.now < 2 ^ 32 }
     requires inside { node < G.nodes g.now }
     ensures all { Expands (G.edge g.now node) (G.nodes g.now) seen.old seen.new }
     ensures hints_room { length hints.new.room.now ≡ length hints.old.room.now }

@@ -1,5 +1,5 @@
 // A graph in a table: the entry of a node has the two nodes that its edges lead to, and a number past the end leads nowhere.
-ghost use Rattle.std.specs.Prelude.{◌^◌, ◌<◌, length};
+ghost use Rattle.std.specs.Prelude.{length};
 ghost use Rattle.reach_cases.specs.Edges.{Linked};
 
 use reach::{Graph, Moves};
@@ -7,15 +7,12 @@ use reach::{Graph, Moves};
 #[derive(Drop)]
 pub struct Links<'a> {
     pub pairs: &'a [(u32, u32)],
-    ghost few: { length pairs.now < 2 ^ 32 },
 }
 
 impl<'a> Graph for Links<'a> {
     ghost edge = { λ s. Linked s.pairs.now };
 
     ghost nodes = { λ s. length s.pairs.now };
-
-    ghost few = { λ s. s.few };
 
     fn size(&self) -> usize {
         self.pairs.len()

@@ -1,6 +1,8 @@
 // Runs the search on a few graphs, with room for hints and with none, and prints how many nodes it visits and what it marks.
 #![tactic(auto)]
 
+ghost use Rattle.std.specs.Prelude.{◌^◌, ◌<◌};
+
 use reach::Graph;
 use std::alloc::{AllocError, Global};
 use std::io;
@@ -18,7 +20,9 @@ struct Found {
     visits: usize,
 }
 
-fn search<G: Graph>(heap: Global, g: &G, start: usize, room: usize) -> Result<Found, AllocError> {
+fn search<G: Graph>(heap: Global, g: &G, start: usize, room: usize) -> Result<Found, AllocError>
+    requires { G.nodes g.now < 2 ^ 32 }
+{
     let words = g.size() / 32 + 1;
     let mut seen: Vec<u32> = vec![in heap; 0; words]?;
     let mut done: Vec<u32> = vec![in heap; 0; words]?;

@@ -1,5 +1,4 @@
 // A graph that stands in no memory: from each node of a ring to twice its number, and to the next.
-ghost use Rattle.std.specs.Prelude.{◌^◌, ◌<◌};
 ghost use Rattle.reach_cases.specs.Edges.{Around};
 
 use reach::{Graph, Moves};
@@ -7,15 +6,12 @@ use reach::{Graph, Moves};
 #[derive(Clone, Copy)]
 pub struct Ring {
     pub size: u32,
-    ghost few: { size < 2 ^ 32 },
 }
 
 impl Graph for Ring {
     ghost edge = { λ s. Around s.size };
 
     ghost nodes = { λ s. s.size };
-
-    ghost few = { λ s. s.few };
 
     fn size(&self) -> usize {
         self.size as usize

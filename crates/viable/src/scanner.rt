@@ -17,8 +17,6 @@ impl<'a> Graph for Scanner<'a> {
 
     ghost nodes = { λ g. g.automaton.states };
 
-    ghost few = { λ g. g.automaton.few };
-
     fn size(&self) -> usize {
         self.automaton.states
     }

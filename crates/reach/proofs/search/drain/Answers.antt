@@ -6,7 +6,7 @@ pub loop-hint-init : goal.loop-hint-init
 loop-hint-init g c = (refl, advances_none _ _)
 
 pub overflow_add-visits : goal.overflow_add-visits
-overflow_add-visits g c = let few = advances_few c.loop-hint.invariant.1 in omega (arith, g.met.G.Graph.few c.args.g.now)
+overflow_add-visits g c = let few = advances_few c.loop-hint.invariant.1 in omega (arith, c.requires.room.small)
 
 pub loop-hint-preserved-then-is_fresh : goal.loop-hint-preserved-then-is_fresh
 loop-hint-preserved-then-is_fresh g c = (

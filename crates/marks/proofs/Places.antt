@@ -15,13 +15,13 @@ use Rattle.trees.proofs.Stacks.{fits_seq_complete}
 use Rattle.trees.proofs.Within.{at_grows, parts_of}
 use Rattle.trees.proofs.Kept.{ready_of, stands_within}
 use Rattle.marks.specs.Cut.{whole, inner, Cut}
-use Rattle.trees.specs.Cells.{cell, begun}
+use Rattle.trees.specs.Cells.{cell_of, begun_of, begun}
 use Rattle.marks.specs.Passes.{Grown, Here, HereSeries}
 use Rattle.marks.proofs.Sound.{Shape, shape_empty, shape_byte, shape_seq, shape_or, shape_many, shape_same, shape_of, Found, found_one, begins_true, begins_false, sound}
 
 -- What begins, begins before the end of the text.
-pub before_end : (scanned : Scanned) (i q : ℕ) → begun scanned i q ≡ true → i < length scanned.text.now
-before_end scanned i q s = ltb-true i (length scanned.text.now) (and_parts (ltb i (length scanned.text.now)) (cell scanned.tree scanned.starts.now i q) s).0
+pub before_end : (n : ℕ) (text : Text) (starts : List ℕ) (i q : ℕ) → begun_of n text starts i q ≡ true → i < length text
+before_end n text starts i q s = ltb-true i (length text) (and_parts (ltb i (length text)) (cell_of n starts i q) s).0
 
 -- A text that is of the form of the whole tree
 fits_whole : (tree : Tree) (text : Text) (grown : Grown tree) → Accepts tree text true → Fits (grown.form ∷ []) text

@@ -15,7 +15,7 @@ use Rattle.trees.proofs.Stacks.{fits_parts_complete, fits_seq_complete}
 use Rattle.trees.proofs.Within.{at_grows}
 use Rattle.marks.specs.Cut.{Cuttable, whole, inner, series, Cut, cut_none, cut_some, cut_one, cut_byte, cut_seq, cut_left, cut_right, cut_many, cut_same, cut_stop, cut_more}
 use Rattle.trees.specs.Cells.{begun}
-use Rattle.marks.proofs.Tables.{begun_tells}
+use Rattle.trees.proofs.Tables.{begun_tells}
 
 -- What stands at a place, by its node: its form, and where the parts stand.
 pub data Shape (words : List ℕ) (root : ℕ) : Node → Form → Stack → Type 0 where

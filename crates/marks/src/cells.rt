@@ -1,19 +1,19 @@
 // Bits for nodes and places of a text, a row of nodes for each place.
 ghost use Rattle.std.specs.Prelude.{◌≡◌, ◌+◌, ◌*◌, ◌^◌, ◌<◌, ◌≤◌, length};
-ghost use Rattle.trees.specs.Cells.{cell};
+ghost use Rattle.trees.specs.Cells.{cell, cell_of};
 ghost use Rattle.marks.specs.Passes.{Adds};
 
 use trees::Tree;
 
-// The bit of the node in the row of `at`; a place that is not in the tree has none.
-pub(crate) fn cell_at(tree: &Tree<'_>, bits: &[u32], place: usize, at: usize) -> bool
-    requires small { at * tree.now.size + tree.now.size ≤ 2 ^ 64 }
-    ensures { result ≡ cell tree.now bits.now at place }
+// The bit of the node in the row of `at`, in rows of so many nodes; a place that is not among them has none.
+pub(crate) fn cell_at(nodes: usize, bits: &[u32], place: usize, at: usize) -> bool
+    requires small { at * nodes + nodes ≤ 2 ^ 64 }
+    ensures { result ≡ cell_of nodes bits.now at place }
 {
-    if place >= tree.size {
+    if place >= nodes {
         return false;
     }
-    bits::get(bits, at * tree.size + place)
+    bits::get(bits, at * nodes + place)
 }
 
 // Marks the node at a place of the text.

@@ -1,15 +1,17 @@
 -- The rows of a text: the loop over its places, and what the first row says of the whole text.
-use Rattle.std.proofs.Common.{◌≡◌, ℕ, ◌+◌, ◌*◌, ◌<◌, ◌≤◌, Bool, false, ◌≢◌, ◌⊎◌, eqb, List, [], ◌∷◌, length, get_or, drop, Decides, sym, ap, ◌∙◌, subst, inl, inr, zero-le, le_refl, add-mul, one-mul, zero-add, zero-mul, arith}
+use Rattle.std.proofs.Common.{◌≡◌, ℕ, ◌+◌, ◌*◌, ◌<◌, ◌≤◌, Bool, true, false, ◌&&◌, ◌≢◌, ◌⊎◌, eqb, refl, List, [], ◌∷◌, length, get_or, drop, Decides, sym, ap, ◌∙◌, subst, inl, inr, zero-le, le_refl, add-mul, one-mul, zero-add, zero-mul, arith}
 use Rattle.std.proofs.lemmas.Nat.{mul-le}
 use Rattle.std.proofs.lemmas.Bool.Decides.{Decides-at, Decides-like, Decides-eqb}
-use Rattle.std.proofs.lemmas.Bool.{cases_eq, eq-eqb, ne_eqb}
+use Rattle.std.proofs.lemmas.Bool.{cases_eq, cases_lt, eq-eqb, ne_eqb, lt-ltb, le-ltb, and_left}
 use Rattle.std.proofs.lemmas.List.{drop_more, drop_all, length-drop}
-use Rattle.lens.specs.Forms.{Text, Matches}
+use borrow.Author.Tests.{clash}
+use Rattle.lens.specs.Forms.{Text, Form, Matches}
 use Rattle.bits.specs.Bits.{bit}
 use Rattle.trees.specs.declared.tree.Tree.{Tree}
 use Rattle.trees.specs.declared.step.Spot.{Spot}
 use Rattle.trees.specs.declared.scanned.Scanned.{Scanned}
-use Rattle.trees.specs.Tree.{at_root}
+use Rattle.trees.specs.Tree.{Stack, Begins, At, at_root}
+use Rattle.trees.specs.Cells.{cell, begun}
 use Rattle.trees.specs.Rows.{Starts, Behind, Steps, Tabled, BeginsAt, Accepts, row_at, row_behind}
 use Rattle.trees.proofs.Decisions.{decides_false}
 use Rattle.trees.proofs.Kept.{ready_of, stands_within, tabled_of}
@@ -80,39 +82,47 @@ module _ (spot : Spot) (i : ℕ) (text : Text) (row : spot.row ≡ i * spot.tree
                 (tabled.rows j (omega arith) m)
           ]
 
--- What the table of a text says
-module _ (scanned : Scanned) where
-  -- One bit of it, and the end of the text.
-  pub begins_within : {i q : ℕ} {r : Bool} → i < length scanned.text.now → r ≡ bit scanned.starts.now (i * scanned.tree.size + q) →
-      BeginsAt scanned.tree scanned.text.now i q r
-  begins_within {i} {q} l is =
-      record { tells = λ f σ at. Decides-at _ _ is (((tabled_of scanned).rows i zero-le l).tells q f σ zero-le at) }
+-- What the table of a text says of a node and a place
 
-  -- Nothing begins at the end of the text, nor at a place that is not in the tree.
-  pub begins_past : {i q : ℕ} → (length scanned.text.now ≤ i) ⊎ (scanned.tree.size ≤ q) → BeginsAt scanned.tree scanned.text.now i q false
-  begins_past {i} (inl past) = record { tells = λ f σ at. decides_false (begins_end (drop_all i scanned.text.now past)) }
-  begins_past (inr out) = record { tells = λ f σ at. absurd (let w = stands_within scanned.tree at in omega (arith, w.1)) }
+and_true : (b x : Bool) → b ≡ true → (b && x) ≡ x
+and_true true x e = refl
+and_true false x e = absurd (clash e)
 
-  -- The whole text
+-- The cell of a node that stands in the tree is its bit.
+pub cell_is : (tree : Tree) (bits : List ℕ) (i q : ℕ) → q < tree.size → cell tree bits i q ≡ bit bits (i * tree.size + q)
+cell_is tree bits i q inside = and_true _ _ (lt-ltb q tree.size inside)
 
-  pub accepts_empty : {r : Bool} → scanned.text.now ≡ [] → r ≡ bit scanned.tree.null.now scanned.tree.root →
-      Accepts scanned.tree scanned.text.now r
-  accepts_empty {r} e is = record {
+pub begun_tells : (scanned : Scanned) (i : ℕ) {q : ℕ} {f : Form} {σ : Stack} → At scanned.tree.words.now scanned.tree.root q f σ →
+    Decides (begun scanned i q) (Begins f σ (drop i scanned.text.now))
+begun_tells scanned i {q} at = elim (cases_lt i (length scanned.text.now)) [
+  | inr past ↦
+      Decides-at _ _ (and_left _ _ (le-ltb i (length scanned.text.now) past)) (decides_false (begins_end (drop_all i scanned.text.now past)))
+  | inl before ↦
+      Decides-at _ _
+      (and_true _ _ (lt-ltb i (length scanned.text.now) before) ∙ cell_is scanned.tree scanned.starts.now i q (stands_within scanned.tree at).1)
+      (((tabled_of scanned).rows i zero-le before).tells q _ _ zero-le at)
+]
+
+pub begins_begun : (scanned : Scanned) {i q : ℕ} {r : Bool} → r ≡ begun scanned i q → BeginsAt scanned.tree scanned.text.now i q r
+begins_begun scanned {i} is = record { tells = λ f σ at. Decides-at _ _ is (begun_tells scanned i at) }
+
+-- What it says of the whole text
+module _ (tree : Tree) {text : Text} {r : Bool} where
+  pub accepts_empty : text ≡ [] → r ≡ bit tree.null.now tree.root → Accepts tree text r
+  accepts_empty e is = record {
     tells = λ f a.
-        let ready = ready_of scanned.tree.ready in
-        subst (λ u. Decides r (Matches f u)) (sym e) (Decides-at _ _ is (ready.nulls.tells scanned.tree.root f zero-le ready.inside a));
+        let ready = ready_of tree.ready in
+        subst (λ u. Decides r (Matches f u)) (sym e) (Decides-at _ _ is (ready.nulls.tells tree.root f zero-le ready.inside a));
   }
 
-  pub accepts_some : {r : Bool} → 0 < length scanned.text.now → r ≡ bit scanned.starts.now scanned.tree.root →
-      Accepts scanned.tree scanned.text.now r
-  accepts_some {r} l is = record {
+  pub accepts_some : {starts : List ℕ} → Tabled tree starts text 0 → 0 < length text → r ≡ bit starts tree.root → Accepts tree text r
+  accepts_some {starts} tabled l is = record {
     tells = λ f a.
-        Decides-like r begins_whole_sound (begins_whole_complete scanned.text.now (some scanned.text.now l))
-        (Decides-at _ _ (is ∙ ap (bit scanned.starts.now) first)
-        (((tabled_of scanned).rows 0 zero-le l).tells _ _ _ zero-le (at_root a)));
+        Decides-like r begins_whole_sound (begins_whole_complete text (some text l))
+        (Decides-at _ _ (is ∙ ap (bit starts) first) ((tabled.rows 0 zero-le l).tells _ _ _ zero-le (at_root a)));
   }
     where
-      first : scanned.tree.root ≡ 0 * scanned.tree.size + scanned.tree.root
+      first : tree.root ≡ 0 * tree.size + tree.root
       first = rw (zero-mul, zero-add)
 
       some : (u : Text) → 0 < length u → Some u

@@ -7,10 +7,12 @@ mod nodes;
 mod null;
 mod scanned;
 mod step;
+mod table;
 mod tree;
 
 pub use nodes::{Node, node_at, put_node, up_at};
 pub use null::mark_null;
 pub use scanned::Scanned;
 pub use step::Spot;
+pub use table::{begun_at, matches};
 pub use tree::Tree;

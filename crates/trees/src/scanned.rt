@@ -1,8 +1,9 @@
 // A text with the table of what begins where in it, and what the table says: of a node and a place, and of the whole text.
-// Not here: who fills the table.
+// Not here: who fills the table, and how its bits are read (table.rt).
 ghost use Rattle.std.specs.Prelude.{◌≡◌, ◌+◌, ◌*◌, ◌^◌, ◌≤◌, length};
 ghost use Rattle.trees.specs.Rows.{Tabled, BeginsAt, Accepts};
 
+use crate::table::{begun_at, matches};
 use crate::tree::Tree;
 
 #[derive(Clone, Copy)]
@@ -26,20 +27,13 @@ impl<'w, 't> Scanned<'w, 't> {
         ensures begins { BeginsAt self.now.tree self.now.text.now at place result }
         ensures begun { result ≡ begun self.now at place }
     {
-        if at >= self.text.len() || place >= self.tree.size {
-            return false;
-        }
-        bits::get(self.starts, at * self.tree.size + place)
+        begun_at(self.tree.size, self.text, self.starts, place, at)
     }
 
     // Whether the text is of the form of the whole tree.
     pub fn matches(&self) -> bool
         ensures { Accepts self.now.tree self.now.text.now result }
     {
-        if self.text.is_empty() {
-            bits::get(self.tree.null, self.tree.root)
-        } else {
-            bits::get(self.starts, self.tree.root)
-        }
+        matches(&self.tree, self.text, self.starts)
     }
 }

@@ -1,6 +1,8 @@
 // A text that has been cut into the parts of one side of a view, and where its parts are.
 // Not here: how a text is cut (crate marks).
 ghost use Rattle.std.specs.Prelude.{◌≡◌};
+ghost use Rattle.trees.specs.Nodes.{node_at};
+ghost use Rattle.walk.specs.Walks.{other_of};
 
 use clear::Side;
 use trees::{Node, Scanned, node_at};
@@ -21,24 +23,22 @@ impl<'w, 't> CutText<'w, 't> {
     pub fn end_of(&self, place: usize, at: usize) -> usize
         ensures { Ends self.now place at result }
     {
-        marks::end_of(&self.scanned, self.marks, place, at)
+        let nodes = self.scanned.tree.size;
+        marks::end_of(
+            nodes,
+            self.scanned.text,
+            self.scanned.starts,
+            self.marks,
+            place,
+            at,
+        )
     }
 
     // The place of the second part of the view at `place`, whose first part stands at `first`.
     pub fn second_of(&self, place: usize, first: usize) -> usize
         ensures { result ≡ other_part self.now place first }
     {
-        match node_at(self.scanned.tree.words, place) {
-            Node::Seq(left, right) => {
-                if left as usize == first {
-                    right as usize
-                } else {
-                    left as usize
-                }
-            }
-            Node::Or(_, right) => right as usize,
-            _ => 0,
-        }
+        second_of(self.scanned.tree.words, place, first)
     }
 
     // Whether the cut took the first of two nodes: a part of it that is not empty begins at `at`, or none of either does
@@ -53,5 +53,22 @@ impl<'w, 't> CutText<'w, 't> {
             return false;
         }
         bits::get(self.scanned.tree.null, first)
+    }
+}
+
+// The place of the second part of the node at `place`, whose first part stands at `first`, by the nodes in any words.
+pub fn second_of(words: &[u32], place: usize, first: usize) -> usize
+    ensures { result ≡ other_of (node_at words.now place) first }
+{
+    match node_at(words, place) {
+        Node::Seq(left, right) => {
+            if left as usize == first {
+                right as usize
+            } else {
+                left as usize
+            }
+        }
+        Node::Or(_, right) => right as usize,
+        _ => 0,
     }
 }

@@ -12,7 +12,7 @@ mod turning;
 mod written;
 
 pub use count::Count;
-pub use cut_text::CutText;
+pub use cut_text::{CutText, second_of};
 pub use delivery::{Give, deliver};
 pub use give::give_part;
 pub use sink::Sink;

@@ -7,4 +7,4 @@ mod memory;
 mod pass;
 mod slots;
 
-pub use pass::backward;
+pub use pass::{backward, scan};

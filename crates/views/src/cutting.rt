@@ -6,7 +6,7 @@ ghost use Rattle.views.specs.Cut.{ClearRow, Cuts};
 use clear::Side;
 use grow::grow;
 use marks::mark_all;
-use recall::backward;
+use recall::scan;
 use rows::Row;
 use trees::{Tree, mark_null};
 use walk::CutText;
@@ -41,7 +41,7 @@ pub(crate) fn cut_text<'w, 't>(
         size,
         root: 0,
     };
-    let scanned = backward(tree, rests, text, starts, memory);
+    let scanned = scan(tree, rests, text, starts, memory);
     if !mark_all(&scanned, marks) {
         return None;
     }

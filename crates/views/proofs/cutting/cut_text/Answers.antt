@@ -10,7 +10,7 @@ invariant_of-tree c =
 
 pub returns : goal.returns
 returns c =
-    let made = c.backward-scanned.ensures in
+    let made = c.scan-scanned.ensures in
     let marked = c.if-not-mark_all.ensures in
     record {
       side_is = refl;

@@ -117,7 +117,7 @@ all_gives {cut = cut} {m = m} {e} i rest done given =
     gives_text (ap (λ e. slice cut.scanned.text.now i e) same) given
 
 -- The whole text
-whole_gives : {side : Side} {v : View} (text : Text) {P : Text → Type 0} → GivesSome (Turns side v (slice text 0 (length text))) P → GivesSome (Turns side v text) P
+pub whole_gives : {side : Side} {v : View} (text : Text) {P : Text → Type 0} → GivesSome (Turns side v (slice text 0 (length text))) P → GivesSome (Turns side v text) P
 whole_gives text given = gives_text (sym (take_all (length text - 0) text (omega arith))) given
 
 -- At a place of a row stands one view at most.
@@ -125,9 +125,9 @@ pub same_view : {row : List ℕ} {at e e' : ℕ} {v v' : View} → Laid view_row
 same_view {v = v} {v'} l l' = ((splits_view v).only v' _ _ (sym l.laid ∙ l'.laid)).0
 
 pub turned_whole : {row : List ℕ} {cut : CutText} {P : Text → Type 0} → CutWhole row cut →
-    ((v : View) → WholeWalk row cut v → PartGives cut v 0 (length cut.scanned.text.now) P) → GivesSome (TurnedWhole row cut) P
+    ((v : View) → WholeWalk row cut v → GivesSome (Turns cut.side v cut.scanned.text.now) P) → GivesSome (TurnedWhole row cut) P
 turned_whole {cut = cut} c given =
-    let g = whole_gives cut.scanned.text.now (given c.view c.walk) in
+    let g = given c.view c.walk in
     record {
       out = g.out;
       holds = record { turns = λ v w. subst (λ v. Turns cut.side v cut.scanned.text.now g.out) (same_view c.walk.laid w.laid) g.holds };

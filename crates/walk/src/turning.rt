@@ -27,7 +27,7 @@ impl<'v, 'w, 't> Give for Turned<'v, 'w, 't> {
     ghost one = { λ s u w c a b. turned_one c a b };
 
     fn give<S: Sink>(&self, sink: &mut S) {
-        self.turn_part(0, Span::all(self.cut.scanned.text), sink);
+        self.turn_whole(sink);
     }
 }
 
@@ -37,6 +37,15 @@ impl<'v, 'w, 't> Turned<'v, 'w, 't> {
     ghost use Rattle.walk.specs.Spans.{slice};
     ghost use Rattle.walk.specs.Turns.{Turns, GivesSome};
     ghost use Rattle.walk.specs.Walks.{CutWalk, CutWalks, CutSeries, SomeCutSeries};
+    ghost use Rattle.walk.specs.Turned.{WholeWalk};
+
+    // Gives what the whole text turns into on the other side. The view need not be clear.
+    pub fn turn_whole<S: Sink>(&self, sink: &mut S)
+        requires { CutWalks self.now.row.bytes.now self.now.cut 0 0 (length self.now.cut.scanned.text.now) }
+        ensures { (v : View) → WholeWalk self.now.row.bytes.now self.now.cut v → GivesSome (Turns self.now.cut.side v self.now.cut.scanned.text.now) (S.took sink.old sink.new) }
+    {
+        self.turn_part(0, Span::all(self.cut.scanned.text), sink);
+    }
 
     // Gives what the part of the view at `place` turns into on the other side.
     #[cycle(turning)]

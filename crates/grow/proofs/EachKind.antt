@@ -1,4 +1,5 @@
 -- Each kind of node of a form and of a view, and the whole row.
+use Rattle.std.proofs.lemmas.List.{get_or_append_left}
 use Rattle.std.proofs.Common.{◌≡◌, ℕ, ◌+◌, ◌*◌, ◌<◌, ◌≤◌, List, ◌++◌, length, slice_index, sym, refl, ap, ◌∙◌, subst, append-nil, arith}
 use lib.Seq.{drop-length}
 use Rattle.lens.specs.Forms.{Form, empty, one}
@@ -83,6 +84,10 @@ tree_grown {side} {s} {t} {t'} {top} bare g = record {
     whole : (v : View) → Encodes s v → Rooted (length s) t' 0 (length s) top (λ words q. Planted words side q v)
     whole v e = (g.grown v _ (laid_row e) bare).rooted t' (λ p w. record { node = refl; up = refl })
 
--- No node stands among zeros.
-pub bare_zeros : {t : List ℕ} {n : ℕ} → 4 * n ≤ length t → ((k : ℕ) → k < length t → slice_index t k ≡ 0) → Bare t 0 n
-bare_zeros {t} long zeros = record { none = λ p w. ap (λ kind. node_of kind (slice_index t (4 * p + 1)) (slice_index t (4 * p + 2))) (zeros (4 * p) (omega arith)) }
+-- No node stands where a tree begins with zeros.
+pub bare_zeros : (zeros rest : List ℕ) {n : ℕ} → length zeros ≡ 4 * n → ((k : ℕ) → k < length zeros → slice_index zeros k ≡ 0) → Bare (zeros ++ rest) 0 n
+bare_zeros zeros rest long none = record {
+  none = λ p w.
+      ap (λ kind. node_of kind (slice_index (zeros ++ rest) (4 * p + 1)) (slice_index (zeros ++ rest) (4 * p + 2)))
+      (get_or_append_left zeros rest 0 (4 * p) (omega arith) ∙ none (4 * p) (omega arith));
+}

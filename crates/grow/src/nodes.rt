@@ -15,7 +15,7 @@ pub fn grow(row: &Row, side: Side, tree: &mut [u32])
     ensures { TreeOf side row.now.bytes.now tree.new }
 {
     // Not every byte of a row becomes a node; a place of zeros is none.
-    tree.fill(0);
+    tree[..4 * row.bytes.len()].fill(0);
     grow_view(row, 0, 0, side, tree);
 }
 
